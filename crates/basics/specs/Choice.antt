@@ -1,0 +1,41 @@
+-- A choice by a test, and how a proof goes along one. Assumes nothing.
+use Prim.Native.Nat.{ℕ}
+use mathlib.Core.Path.{_≡_, refl, sym, subst, _∙_}
+use mathlib.Core.Bool.{Bool, true, false, not, _&&_, _||_}
+use native.Mathlib.Omega.{arith}
+
+-- the first where the test holds, else the second
+abbrev pub pick : {A : Type 0} → Bool → A → A → A
+pick true a b = a
+pick false a b = b
+
+-- a rule that is a nest of picks is answered with a word for each test on the way: `yes` where it held, `no` where it failed
+pub yes : {A : Type 0} {b : Bool} {x z : A} (y : A) → b ≡ true → z ≡ x → z ≡ pick b x y
+yes {A} {b} {x} {z} y e p = subst (λ (t : Bool). z ≡ pick t x y) (sym e) p
+
+pub no : {A : Type 0} {b : Bool} {y z : A} (x : A) → b ≡ false → z ≡ y → z ≡ pick b x y
+no {A} {b} {y} {z} x e p = subst (λ (t : Bool). z ≡ pick t x y) (sym e) p
+
+-- what a call promises of its flag, and what the branch says of it
+pub by : {f b v : Bool} → f ≡ b → f ≡ v → b ≡ v
+by p q = sym p ∙ q
+
+-- what holds of both ways holds of the choice, each with its test at hand
+pub pick-cases : {A : Type 0} (P : A → Type 0) (b : Bool) (x y : A) → (b ≡ true → P x) → (b ≡ false → P y) → P (pick b x y)
+pick-cases P true x y t f = t refl
+pick-cases P false x y t f = f refl
+
+pub not-both : {b : Bool} → b ≡ true → b ≡ false → ⊥
+not-both {b} p q = let z : _≡_ {A = ℕ} 0 1 = cc in omega arith
+
+pub and-left : (a b : Bool) → (a && b) ≡ true → a ≡ true
+and-left true b e = refl
+and-left false b e = e
+
+pub and-right : (a b : Bool) → (a && b) ≡ true → b ≡ true
+and-right true b e = e
+and-right false b e = absurd (not-both e refl)
+
+pub or-cases : {C : Type 0} (a b : Bool) → (a || b) ≡ true → (a ≡ true → C) → (b ≡ true → C) → C
+or-cases true b e f g = f refl
+or-cases false b e f g = g e

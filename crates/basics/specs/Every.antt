@@ -1,0 +1,53 @@
+-- A test at every number below n, and the laws of a loop that goes through them. Assumes nothing.
+use Prim.Native.Nat.{ℕ, zero, suc, _+_, _<_, _≤_}
+use mathlib.Core.Path.{_≡_, refl, sym, ap, _∙_}
+use mathlib.Core.Bool.{Bool, true, false, _&&_, and-false}
+use mathlib.Core.Logic.{⊎-elim}
+use native.Mathlib.Numerals.{add-one}
+use native.Mathlib.Omega.{arith}
+use native.Mathlib.Nat.{not-suc-le-zero, le-of-suc-le-suc, eq-or-lt-of-le, le-antisymm}
+use Rattle.basics.specs.Choice.{and-left, and-right}
+
+unfoldable pub allBelow : ℕ → (ℕ → Bool) → Bool
+allBelow zero f = true
+allBelow (suc n) f = allBelow n f && f n
+
+-- the loop begins
+pub all-none : (f : ℕ → Bool) → allBelow 0 f ≡ true
+unfolding allBelow
+all-none f = refl
+
+-- a turn passed
+pub all-more : (f : ℕ → Bool) (i : ℕ) → allBelow i f ≡ true → f i ≡ true → allBelow (i + 1) f ≡ true
+unfolding allBelow
+all-more f i p q = rw (add-one i, p, q)
+
+-- a turn failed
+pub all-fails : (n : ℕ) (f : ℕ → Bool) (i : ℕ) → i < n → f i ≡ false → false ≡ allBelow n f
+unfolding allBelow
+all-fails zero f i l q = absurd (not-suc-le-zero l)
+all-fails (suc n) f i l q =
+    ⊎-elim (λ (e : i ≡ n). rw (sym (ap f e) ∙ q) (sym (and-false (allBelow n f)))) (λ (h : i < n). rw (sym (all-fails n f i h q))) (eq-or-lt-of-le (le-of-suc-le-suc l))
+
+-- the loop ended
+pub all-done : (n : ℕ) (f : ℕ → Bool) (i : ℕ) → i ≤ n → n ≤ i → allBelow i f ≡ true → true ≡ allBelow n f
+all-done n f i a b p = rw (le-antisymm b a) (sym p)
+
+-- what a client reads
+pub all-at : (n : ℕ) (f : ℕ → Bool) → allBelow n f ≡ true → (i : ℕ) → i < n → f i ≡ true
+unfolding allBelow
+all-at zero f p i l = absurd (not-suc-le-zero l)
+all-at (suc n) f p i l =
+    ⊎-elim (λ (e : i ≡ n). ap f e ∙ and-right (allBelow n f) (f n) p) (λ (h : i < n). all-at n f (and-left (allBelow n f) (f n) p) i h) (eq-or-lt-of-le (le-of-suc-le-suc l))
+
+-- what a client shows
+pub all-of : (n : ℕ) (f : ℕ → Bool) → ((i : ℕ) → i < n → f i ≡ true) → allBelow n f ≡ true
+unfolding allBelow
+all-of zero f h = refl
+all-of (suc n) f h = rw (all-of n f (λ i l. h i (omega arith)), h n (omega arith))
+
+-- two tests that agree at each place
+pub all-same : (n : ℕ) (f g : ℕ → Bool) → ((i : ℕ) → i < n → f i ≡ g i) → allBelow n f ≡ allBelow n g
+unfolding allBelow
+all-same zero f g h = refl
+all-same (suc n) f g h = rw (all-same n f g (λ i l. h i (omega arith)), h n (omega arith))

@@ -1,0 +1,132 @@
+-- The laws of a field's value. Assumes nothing.
+use Prim.Native.Nat.{ℕ, zero, suc, _+_, _-_, _*_, _/_, _%_, _^_, _≤_, _<_}
+use mathlib.Core.Path.{_≡_, refl, sym, ap, _∙_}
+use mathlib.Core.List.{List, [], _∷_, _++_, append-assoc}
+use native.Mathlib.Nat.{pow-suc, pow-zero, add-suc, add-zero, mul-assoc, add-assoc, div-div-eq-div-mul}
+use native.Mathlib.Omega.{arith}
+use native.Mathlib.Numerals.{add-one}
+use lib.ListN.{length, getD, take, drop, length-append}
+use lib.Seq.{paste, length-take-le, drop-drop, drop-append-add, take-length, take-all, take-at, drop-at, length-paste, length-paste-head, drop-paste, take-paste}
+use lib.Pow.{pow-mono}
+use mathlib.Core.Bool.{Bool, true, false}
+use lib.Dec.{leb}
+use borrow.Author.Tests.{le-leb, lt-leb}
+use Rattle.basics.specs.Choice.{pick-cases}
+use Rattle.bitfield.specs.Bits.{widest, widestBytes, bitAt, valueAt, fieldAt, valueIn, bytes, put, roomFor, written}
+
+pub bit-lt : (s : List ℕ) (p : ℕ) → bitAt s p < 2
+unfolding bitAt
+bit-lt s p = omega arith
+
+-- one bit more
+pub value-more : (s : List ℕ) (at w : ℕ) → valueAt s at (w + 1) ≡ valueAt s at w * 2 + bitAt s (at + w)
+unfolding valueAt
+value-more s at w = rw add-one
+
+pub value-lt : (s : List ℕ) (at w : ℕ) → valueAt s at w < 2 ^ w
+unfolding valueAt
+value-lt s at zero = omega arith
+value-lt s at (suc w) = rw pow-suc (omega (arith, value-lt s at w, bit-lt s (at + w)))
+
+-- the widest field fits a word
+pub value-fits : (s : List ℕ) (at w : ℕ) → w ≤ widest → valueAt s at w < 2 ^ widest
+value-fits s at w h = omega (arith, value-lt s at w, pow-mono {i = w} {j = widest} h)
+
+-- what a caller that has looked at the length reads
+pub value-inside : (s : List ℕ) (at w : ℕ) → w ≤ widest → at + w ≤ 8 * length s → valueIn (fieldAt s at w) ≡ valueAt s at w
+value-inside s at w h g = simp (le-leb _ _ h, le-leb _ _ g)
+
+-- two fields side by side are one
+pub value-join : (s : List ℕ) (at a b : ℕ) → valueAt s at (a + b) ≡ valueAt s at a * 2 ^ b + valueAt s (at + a) b
+unfolding valueAt
+value-join s at a zero = simp (add-zero, pow-zero) (omega arith)
+value-join s at a (suc b) =
+    rw (add-suc, pow-suc, add-assoc at a b)
+    (omega (arith, value-join s at a b, mul-assoc (valueAt s at a) (2 ^ b) 2))
+
+-- a bit of byte k
+pub bit-of : (s : List ℕ) (k j : ℕ) → j < 8 → bitAt s (8 * k + j) ≡ getD s k 0 / 2 ^ (7 - j) % 2
+unfolding bitAt
+bit-of s k j h =
+    let e : (8 * k + j) / 8 ≡ k = omega arith in
+    let f : (8 * k + j) % 8 ≡ j = omega arith in
+    rw (e, f)
+
+-- the first j bits of a byte are its upper part
+pub value-top : (s : List ℕ) (k j : ℕ) → getD s k 0 < 256 → j ≤ 8 → valueAt s (8 * k) j ≡ getD s k 0 / 2 ^ (8 - j)
+unfolding valueAt
+value-top s k zero h g = omega arith
+value-top s k (suc j) h g =
+    let m : j < 8 = omega arith in
+    let e : 8 - j ≡ suc (7 - j) = omega arith in
+    let f : 8 - suc j ≡ 7 - j = omega arith in
+    let up : valueAt s (8 * k) j ≡ getD s k 0 / 2 ^ (7 - j) / 2 = value-top s k j h (omega arith) ∙ rw (e, pow-suc, ← div-div-eq-div-mul) in
+    rw (up, bit-of s k j m, f) (omega arith)
+
+-- the eight bits of a byte are the byte
+pub value-byte : (s : List ℕ) (k : ℕ) → getD s k 0 < 256 → valueAt s (8 * k) 8 ≡ getD s k 0
+value-byte s k h = value-top s k 8 h (omega arith) ∙ omega arith
+
+pub length-bytes : (n x : ℕ) → length (bytes n x) ≡ n
+unfolding bytes
+length-bytes zero x = refl
+length-bytes (suc n) x = ap suc (length-bytes n x)
+
+pub getD-bytes : (n x i : ℕ) → i < n → getD (bytes n x) i 0 ≡ x / 2 ^ (8 * (n - 1 - i)) % 256
+unfolding bytes
+getD-bytes zero x i h = absurd (omega arith)
+getD-bytes (suc n) x zero h = let e : suc n - 1 - 0 ≡ n = omega arith in rw e
+getD-bytes (suc n) x (suc i) h = let e : suc n - 1 - suc i ≡ n - 1 - i = omega arith in rw e (getD-bytes n x i (omega arith))
+
+-- ---- writing
+
+pub put-paste : (d : List ℕ) (k : ℕ) (l : List ℕ) → paste d k l (length l) ≡ put d k l
+unfolding put
+put-paste d k l = rw take-length
+
+pub length-put : (d : List ℕ) (k : ℕ) (l : List ℕ) → k + length l ≤ length d → length (put d k l) ≡ length d
+length-put d k l h = rw (← put-paste) (length-paste d k l (length l) h (omega arith))
+
+put-head : (d : List ℕ) (k j : ℕ) (l : List ℕ) → j ≡ k + length l → j ≤ length d → length (take k d ++ l) ≡ j
+put-head d k j l e h = omega (arith, length-append (take k d) l, length-take-le k d (omega arith))
+
+pub take-put : (d : List ℕ) (k j : ℕ) (l : List ℕ) → j ≡ k + length l → j ≤ length d → take j (put d k l) ≡ take k d ++ l
+unfolding put
+take-put d k j l e h = take-at (take k d ++ l) (drop (k + length l) d) j (put-head d k j l e h)
+
+-- what stands past a write is as it was
+pub drop-put : (d : List ℕ) (k j n : ℕ) (l : List ℕ) → j ≡ k + length l → j ≤ length d → drop (j + n) (put d k l) ≡ drop (j + n) d
+unfolding put
+drop-put d k j n l e h =
+    let q = put-head d k j l e h in
+    rw (← drop-drop n j d, e) (rw (← drop-append-add (take k d ++ l) (drop (k + length l) d) n, q, e))
+
+-- one write after another, side by side, is one write
+pub put-put : (d : List ℕ) (k j : ℕ) (l m : List ℕ) → j ≡ k + length l → j + length m ≤ length d → put (put d k l) j m ≡ put d k (l ++ m)
+unfolding put
+put-put d k j l m e h =
+    let a : j + length m ≡ k + length (l ++ m) = omega (arith, length-append l m) in
+    rw (take-put d k j l e (omega arith), drop-put d k j (length m) l e (omega arith), ← append-assoc, a)
+
+-- the ways that a write ends
+module _ (s : List ℕ) (k n : ℕ) where
+  pub too-wide : widestBytes < n → roomFor s k n ≡ false
+  unfolding roomFor
+  too-wide h = simp (lt-leb _ _ h)
+
+  pub past-end : length s < k + n → roomFor s k n ≡ false
+  unfolding roomFor
+  past-end h = simp (lt-leb _ _ h) (pick-cases (λ (b : Bool). b ≡ false) (leb n widestBytes) false false (λ _. refl) (λ _. refl))
+
+  pub room : n ≤ widestBytes → k + n ≤ length s → roomFor s k n ≡ true
+  unfolding roomFor
+  room h g = simp (le-leb _ _ h, le-leb _ _ g)
+
+module _ (s : List ℕ) (k n x : ℕ) where
+  pub refused : roomFor s k n ≡ false → (false ≡ roomFor s k n) × (s ≡ written s k n x)
+  unfolding written
+  refused e = rw e (refl, refl)
+
+  pub written-inside : roomFor s k n ≡ true → written s k n x ≡ put s k (bytes n x)
+  unfolding written
+  written-inside e = rw e
