@@ -1,17 +1,18 @@
 -- The laws of a field's value. Assumes nothing.
 use Prim.Native.Nat.{ℕ, zero, suc, _+_, _-_, _*_, _/_, _%_, _^_, _≤_, _<_}
 use mathlib.Core.Path.{_≡_, refl, sym, ap, _∙_}
-use mathlib.Core.List.{List, [], _∷_, _++_, append-assoc}
-use native.Mathlib.Nat.{pow-suc, pow-zero, add-suc, add-zero, mul-assoc, add-assoc, div-div-eq-div-mul}
+use mathlib.Core.List.{List, [], _∷_, _++_, append-assoc, append-nil}
+use native.Mathlib.Nat.{pow-suc, pow-zero, add-suc, add-zero, mul-assoc, add-assoc, mul-suc, div-div-eq-div-mul}
 use native.Mathlib.Omega.{arith}
 use native.Mathlib.Numerals.{add-one}
-use lib.ListN.{length, getD, take, drop, length-append}
+use lib.ListN.{length, getD, take, drop, length-append, take-append-drop}
 use lib.Seq.{paste, length-take-le, drop-drop, drop-append-add, take-length, take-all, take-at, drop-at, length-paste, length-paste-head, drop-paste, take-paste}
 use lib.Pow.{pow-mono}
 use mathlib.Core.Bool.{Bool, true, false}
 use lib.Dec.{leb}
 use borrow.Author.Tests.{le-leb, lt-leb}
 use Rattle.basics.specs.Choice.{pick-cases}
+use Rattle.basics.specs.Places.{inTurn, inTurn-more}
 use Rattle.bitfield.specs.Bits.{widest, widestBytes, bitAt, valueAt, fieldAt, valueIn, bytes, put, roomFor, written}
 
 pub bit-lt : (s : List ℕ) (p : ℕ) → bitAt s p < 2
@@ -107,6 +108,27 @@ unfolding put
 put-put d k j l m e h =
     let a : j + length m ≡ k + length (l ++ m) = omega (arith, length-append l m) in
     rw (take-put d k j l e (omega arith), drop-put d k j (length m) l e (omega arith), ← append-assoc, a)
+
+-- and so are three
+pub put-three : (d b1 b2 b3 : List ℕ) (k i j : ℕ) (x y z : List ℕ) → b1 ≡ put d k x → b2 ≡ put b1 i y → b3 ≡ put b2 j z → i ≡ k + length x → j ≡ i + length y → j + length z ≤ length d → b3 ≡ put d k (x ++ y ++ z)
+put-three d b1 b2 b3 k i j x y z e1 e2 e3 li lj h =
+    let l = length-append x y in
+    let p : b2 ≡ put d k (x ++ y) = rw (e2, e1) (put-put d k i x y li (omega arith)) in
+    rw (e3, p) (put-put d k j (x ++ y) z (omega arith) h)
+
+-- writes of m bytes each, one after another from index k on: e is d after i of them
+abbrev pub Strung : List ℕ → ℕ → ℕ → (ℕ → List ℕ) → ℕ → List ℕ → Type 0
+Strung d k m f i e = (e ≡ put d k (inTurn i f)) × (length (inTurn i f) ≡ m * i)
+
+pub strung-none : (d : List ℕ) (k m : ℕ) (f : ℕ → List ℕ) → Strung d k m f 0 d
+unfolding put inTurn
+strung-none d k m f = (simp (append-nil, add-zero) (sym (take-append-drop k d)), omega arith)
+
+pub strung-more : (d : List ℕ) (k m : ℕ) (f : ℕ → List ℕ) (i : ℕ) (e e′ : List ℕ) → Strung d k m f i e → length (f i) ≡ m → e′ ≡ put e (k + m * i) (f i) → k + m * i + m ≤ length d → Strung d k m f (i + 1) e′
+strung-more d k m f i e e′ s l w h =
+    let z = mul-suc m i in
+    let n : length (inTurn i f ++ f i) ≡ m * (i + 1) = rw add-one (omega (arith, length-append (inTurn i f) (f i), s .1)) in
+    rw inTurn-more (rw (w, s .0) (put-put d k (k + m * i) (inTurn i f) (f i) (omega (arith, s .1)) (omega arith)), n)
 
 -- the ways that a write ends
 module _ (s : List ℕ) (k n : ℕ) where

@@ -85,6 +85,10 @@ join-lt [] (v ∷ vs) f = absurd f
 join-lt (w ∷ ws) [] f = absurd f
 join-lt (w ∷ ws) (v ∷ vs) f = rw (pow-add 2 w (total ws)) (digits-lt (f .0) (join-lt ws vs (f .1)))
 
+pub join-one : (w v : ℕ) → join (w ∷ []) (v ∷ []) ≡ v
+unfolding join
+join-one w v = omega arith
+
 -- the fields of bytes, side by side, write the value of them all
 pub join-fields : (ws : List ℕ) (at : ℕ) (s : List ℕ) → join ws (fields ws at s) ≡ valueAt s at (total ws)
 unfolding join fields valueAt

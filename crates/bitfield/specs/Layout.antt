@@ -1,6 +1,7 @@
 -- A layout is the list of its fields' widths. Its fields' values in bytes, and the number that values write. Assumes nothing.
 use Prim.Native.Nat.{ℕ, _+_, _*_, _^_, _<_}
 use mathlib.Core.List.{List, [], _∷_}
+use lib.ListN.{getD, take}
 use Rattle.bitfield.specs.Bits.{valueAt}
 
 -- the bits of a layout
@@ -25,3 +26,7 @@ Fit [] [] = Unit
 Fit [] (v ∷ vs) = ⊥
 Fit (w ∷ ws) [] = ⊥
 Fit (w ∷ ws) (v ∷ vs) = (v < 2 ^ w) × Fit ws vs
+
+-- field k of a layout that starts at bit `at`
+abbrev pub fieldOf : List ℕ → ℕ → ℕ → List ℕ → ℕ
+fieldOf ws k at s = valueAt s (at + total (take k ws)) (getD ws k 0)

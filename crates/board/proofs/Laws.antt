@@ -1,0 +1,165 @@
+-- The cases of reading and of writing, each as a law that a proof cites. Assumes nothing.
+use Prim.Native.Nat.{ℕ, _+_, _-_, _*_, _^_, _<_, _≤_}
+use mathlib.Core.Path.{_≡_, refl, sym, _∙_, ap}
+use mathlib.Core.Bool.{Bool, true, false}
+use mathlib.Core.List.{List, [], _∷_, _++_, append-assoc}
+use native.Mathlib.Omega.{arith}
+use lib.Dec.{leb, ltb}
+use lib.ListN.{length, take, length-append}
+use borrow.Author.Tests.{leb-true, ltb-false, lt-ltb, le-ltb}
+use Rattle.basics.specs.Choice.{pick, pick-cases, yes, no, and-left, and-right}
+use Rattle.basics.specs.Places.{inTurn}
+use Rattle.bitfield.specs.Bits.{bytes, put}
+use Rattle.bitfield.specs.Layout.{join, Fit}
+use Rattle.bitfield.proofs.Laws.{value-lt, length-bytes, put-put, take-put}
+use Rattle.bitfield.proofs.Round.{join-one, bytes-join}
+use Rattle.board.specs.Description.{mostComponents, mostCpus, blankBoard, withinLimit, countsOf, Counted, judgedOf}
+use Rattle.board.specs.Packed.{lengthOf, componentsIn, boardAt, reservedClear, shapeOf, settle, accepted, readOf, digitOf, flagsNumber, headWidths, headValues, tailWidths, tailValues, headLength, tailLength, headBytes, componentBytes, componentLength, bytesAt, bytesOf, writableOf, lengthIn, putBy, putOf, bufferBy, bufferOf, partBy, partOf}
+use Rattle.board.specs.declared.Component.{Component}
+use Rattle.board.specs.declared.Board.{Board}
+use Rattle.board.specs.declared.Refusal.{Refusal}
+use Rattle.board.specs.declared.Refusal.the-variants.{TooShort, TooLong, ReservedBit, CountOutside, NoRoom}
+use Rattle.board.specs.declared.Verdict.{Verdict}
+use Rattle.board.specs.declared.Verdict.the-variants.{Accepted, Refused}
+use Rattle.board.specs.declared.Written.{Written}
+use Rattle.board.specs.declared.Written.the-variants.{Bytes, Nothing}
+
+-- ---- reading
+
+pub components-most : (s : List ℕ) → componentsIn s ≤ mostComponents
+components-most s = omega (arith, value-lt s 0 5)
+
+-- what has the shape of a description
+pub record Shaped (s : List ℕ) : Type 0 where
+  pub whole : length s ≡ lengthOf (componentsIn s)
+  pub clear : reservedClear s (componentsIn s) ≡ true
+
+pub shape-accepted : (s : List ℕ) → shapeOf s ≡ Accepted → Shaped s
+unfolding shapeOf
+shape-accepted s e = go (ltb (length s) 2) (ltb (length s) m) (ltb m (length s)) (reservedClear s (componentsIn s)) refl refl refl e
+  where
+    m : ℕ
+    m = lengthOf (componentsIn s)
+
+    go : (a b d r : Bool) → ltb (length s) m ≡ b → ltb m (length s) ≡ d → reservedClear s (componentsIn s) ≡ r → pick a (Refused TooShort) (pick b (Refused TooShort) (pick d (Refused TooLong) (pick r Accepted (Refused ReservedBit)))) ≡ Accepted → Shaped s
+    go true b d r p q w h = let z : _≡_ {A = ℕ} 0 1 = cc in absurd (omega arith)
+    go false true d r p q w h = let z : _≡_ {A = ℕ} 0 1 = cc in absurd (omega arith)
+    go false false true r p q w h = let z : _≡_ {A = ℕ} 0 1 = cc in absurd (omega arith)
+    go false false false false p q w h = let z : _≡_ {A = ℕ} 0 1 = cc in absurd (omega arith)
+    go false false false true p q w h =
+        let x = ltb-false (length s) m p in
+        let y = ltb-false m (length s) q in
+        record { whole = omega arith; clear = w }
+
+pub read-shaped : (s : List ℕ) (v : Verdict) (b : Board) → shapeOf s ≡ Accepted → b ≡ boardAt s → v ≡ judgedOf b → settle v (accepted b) ≡ readOf s
+unfolding readOf
+read-shaped s v b e p q = rw (e, q, p)
+
+pub read-unshaped : (s : List ℕ) (x : Refusal) → shapeOf s ≡ Refused x → record { verdict = Refused x; board = blankBoard } ≡ readOf s
+unfolding readOf
+read-unshaped s x e = rw e
+
+-- ---- writing
+
+pub counted : (b : Board) → countsOf b ≡ true → Counted b
+unfolding withinLimit
+counted b e =
+    let p = and-left (withinLimit (b .components) mostComponents) (withinLimit (b .cpus) mostCpus) e in
+    let q = and-right (withinLimit (b .components) mostComponents) (withinLimit (b .cpus) mostCpus) e in
+    record {
+      someComponents = leb-true _ _ (and-left (leb 1 (b .components)) (leb (b .components) mostComponents) p);
+      fewComponents = leb-true _ _ (and-right (leb 1 (b .components)) (leb (b .components) mostComponents) p);
+      someCpus = leb-true _ _ (and-left (leb 1 (b .cpus)) (leb (b .cpus) mostCpus) q);
+      fewCpus = leb-true _ _ (and-right (leb 1 (b .cpus)) (leb (b .cpus) mostCpus) q);
+    }
+
+pub writable-counted : (b : Board) → writableOf b ≡ Accepted → Counted b
+unfolding writableOf
+writable-counted b e = counted b (go (countsOf b) e)
+  where
+    go : (t : Bool) → pick t (judgedOf b) (Refused CountOutside) ≡ Accepted → t ≡ true
+    go true h = refl
+    go false h = let z : _≡_ {A = ℕ} 0 1 = cc in absurd (omega arith)
+
+abbrev pub countsNumber : Board → ℕ
+countsNumber b = (b .components - 1) * 64 + (b .cpus - 1)
+
+counts-join : (b : Board) → join (5 ∷ 6 ∷ 5 ∷ []) ((b .components - 1) ∷ (b .cpus - 1) ∷ 0 ∷ []) ≡ countsNumber b * 32
+unfolding join
+counts-join b = omega arith
+
+-- the head: two bytes of counts, and two words
+pub head-bytes : (b : Board) → Fit headWidths (headValues b) → headBytes b ≡ bytes 2 (countsNumber b * 32) ++ bytes 8 (b .first) ++ bytes 8 (b .last)
+unfolding headBytes
+head-bytes b f =
+    let counts = (b .components - 1) ∷ (b .cpus - 1) ∷ 0 ∷ [] in
+    rw (
+      bytes-join 2 16 (5 ∷ 6 ∷ 5 ∷ []) counts (64 ∷ 64 ∷ []) (b .first ∷ b .last ∷ []) refl (f .0, (f .1 .0, (f .1 .1 .0, tt))) (f .1 .1 .1),
+      bytes-join 8 8 (64 ∷ []) (b .first ∷ []) (64 ∷ []) (b .last ∷ []) refl (f .1 .1 .1 .0, tt) (f .1 .1 .1 .1),
+      counts-join b,
+      join-one 64 (b .first),
+      join-one 64 (b .last),
+    )
+    (simp append-assoc)
+
+pub digit-fits : (b : Bool) → digitOf b < 2
+digit-fits true = omega arith
+digit-fits false = omega arith
+
+flags-join : (c : Component) → join (1 ∷ 1 ∷ 1 ∷ 5 ∷ []) (digitOf (c .capable) ∷ digitOf (c .«may_reset») ∷ digitOf (c .optional) ∷ 0 ∷ []) ≡ flagsNumber c * 32
+unfolding join
+flags-join c = omega arith
+
+-- a component: its UUID, a byte of flags, and four bytes
+pub component-bytes : (c : Component) → Fit tailWidths (tailValues c) → componentBytes c ≡ c .uuid ++ bytes 1 (flagsNumber c * 32) ++ bytes 4 (c .svn)
+unfolding componentBytes
+component-bytes c f =
+    let flags = digitOf (c .capable) ∷ digitOf (c .«may_reset») ∷ digitOf (c .optional) ∷ 0 ∷ [] in
+    rw (
+      bytes-join 1 4 (1 ∷ 1 ∷ 1 ∷ 5 ∷ []) flags (32 ∷ []) (c .svn ∷ []) refl (f .0, (f .1 .0, (f .1 .1 .0, (f .1 .1 .1 .0, tt)))) (f .1 .1 .1 .1),
+      flags-join c,
+      join-one 32 (c .svn),
+    )
+    (simp append-assoc)
+
+-- the ways that a write ends
+module _ (d : List ℕ) (b : Board) where
+  pub unwritable : (x : Refusal) → writableOf b ≡ Refused x → (Nothing x ≡ putOf (length d) b) × ((d ≡ bufferOf d b) × (0 ≡ length (partOf d b)))
+  unfolding putOf
+  unwritable x e = rw e (refl, (refl, refl))
+
+  pub by-room : (r : Written) (e : List ℕ) → writableOf b ≡ Accepted → r ≡ putBy Accepted (length d) (lengthOf (b .components)) → e ≡ bufferBy r d b → lengthIn r ≡ length (partBy r b) → (r ≡ putOf (length d) b) × ((e ≡ bufferOf d b) × (lengthIn r ≡ length (partOf d b)))
+  unfolding putOf
+  by-room r e w p q l = rw (w, ← p) (refl, (q, l))
+
+  pub no-room : length d < lengthOf (b .components) → Nothing NoRoom ≡ putBy Accepted (length d) (lengthOf (b .components))
+  no-room h = yes _ (lt-ltb _ _ h) refl
+
+  pub all-written : (h e : List ℕ) → lengthOf (b .components) ≤ length d → h ≡ put d 0 (headBytes b) → e ≡ put h headLength (inTurn (b .components) (bytesAt b)) → length (inTurn (b .components) (bytesAt b)) ≡ componentLength * b .components → (Bytes (lengthOf (b .components)) ≡ putBy Accepted (length d) (lengthOf (b .components))) × ((e ≡ put d 0 (bytesOf b)) × (lengthOf (b .components) ≡ length (bytesOf b)))
+  unfolding bytesOf headBytes
+  all-written h e g p q l =
+      let n = length-bytes headLength (join headWidths (headValues b)) in
+      let m = length-append (headBytes b) (inTurn (b .components) (bytesAt b)) in (
+        no _ (le-ltb _ _ g) refl,
+        (rw (q, p) (put-put d 0 headLength (headBytes b) (inTurn (b .components) (bytesAt b)) (omega arith) (omega arith)), omega arith),
+      )
+
+-- what a write says of its length is so
+pub put-fits : (room : ℕ) (b : Board) → lengthIn (putOf room b) ≤ room
+unfolding putOf
+put-fits room b = go (writableOf b)
+  where
+    n : ℕ
+    n = lengthOf (b .components)
+
+    go : (v : Verdict) → lengthIn (putBy v room n) ≤ room
+    go (Refused x) = omega arith
+    go Accepted = pick-cases (λ (w : Written). lengthIn w ≤ room) (ltb room n) (Nothing NoRoom) (Bytes n) (λ _. omega arith) (λ t. ltb-false room n t)
+
+-- the part is what stands at the start of the buffer
+pub part-written : (d : List ℕ) (b : Board) (n : ℕ) → n ≡ length (partOf d b) → n ≤ length d → take n (bufferOf d b) ≡ partOf d b
+part-written d b n = go (putOf (length d) b)
+  where
+    go : (w : Written) → n ≡ length (partBy w b) → n ≤ length d → take n (bufferBy w d b) ≡ partBy w b
+    go (Bytes m) e h = take-put d 0 n (bytesOf b) (omega arith) h
+    go (Nothing x) e h = rw e

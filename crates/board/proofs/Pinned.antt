@@ -1,0 +1,29 @@
+-- Each public function's promise leaves one outcome. Assumes nothing.
+use denote.Ref.{now}
+use Rattle.basics.proofs.Pin.{OneOutcome, OnePart, same, just}
+use Rattle.board.proofs.number.Kinds as number-kinds
+use Rattle.board.proofs.number.Reads as number-reads
+use Rattle.board.proofs.good_entry.Kinds as good-entry-kinds
+use Rattle.board.proofs.good_entry.Reads as good-entry-reads
+use Rattle.board.proofs.read_board.Kinds as read-board-kinds
+use Rattle.board.proofs.read_board.Reads as read-board-reads
+use Rattle.board.proofs.put_board.Kinds as put-board-kinds
+use Rattle.board.proofs.put_board.Reads as put-board-reads
+use Rattle.board.proofs.write_board.Kinds as write-board-kinds
+use Rattle.board.proofs.write_board.Reads as write-board-reads
+
+pub number-pinned : OneOutcome 0 number-kinds.ps number-kinds.r number-reads.Post
+number-pinned κs a z z′ ws ws′ p q = just p q
+
+pub good-entry-pinned : OneOutcome 0 good-entry-kinds.ps good-entry-kinds.r good-entry-reads.Post
+good-entry-pinned κs a z z′ ws ws′ p q = just p q
+
+pub read-board-pinned : OneOutcome 1 read-board-kinds.ps read-board-kinds.r read-board-reads.Post
+read-board-pinned κs a z z′ ws ws′ p q = just p q
+
+pub put-board-pinned : OneOutcome 1 put-board-kinds.ps put-board-kinds.r put-board-reads.Post
+put-board-pinned κs a z z′ ws ws′ p q = (same (p .0) (q .0), λ i. (same (p .1 .0) (q .1 .0) i, (tt, tt)))
+
+-- what the part holds is pinned; the buffer is spent, so nothing can be said of the rest (docs/DECISIONS.md)
+pub write-board-pinned : OnePart 1 write-board-kinds.ps write-board-kinds.r (λ κs z. now z) write-board-reads.Post
+write-board-pinned κs a z z′ ws ws′ p q = same p q

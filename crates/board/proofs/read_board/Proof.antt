@@ -1,0 +1,53 @@
+use mathlib.Core.Path.{sym, _∙_, ap}
+use native.Mathlib.Omega.{arith}
+use Rattle.board.specs.Packed.{boardAt}
+use Rattle.board.proofs.Laws.{components-most, shape-accepted, read-shaped, read-unshaped}
+use borrow.Author.Needs.{needs}
+use Rattle.board.proofs.read_board.Statement.{statement}
+use Rattle.board.proofs.read_board.Tie as tie
+
+shape-requires : tie.Need-shape-requires
+shape-requires c κs = search needs
+
+enum-told : tie.Need-enum-told
+enum-told c = search needs
+
+board-at-requires : tie.Need-board-at-requires
+board-at-requires c κs = omega (arith, shape-accepted _ (sym (c .before .before .shape .ensures) ∙ c .enum-told .given .1) .whole)
+
+judged-requires : tie.Need-judged-requires
+unfolding boardAt
+judged-requires c κs = rw (c .board-at .ensures) (components-most _)
+
+settled-requires : tie.Need-settled-requires
+settled-requires c κs = search needs
+
+enum-known-x : tie.Need-enum-known-x
+enum-known-x c = search needs
+
+blank-board-requires : tie.Need-blank-board-requires
+blank-board-requires c κs = search needs
+
+settled-requires-2 : tie.Need-settled-requires-2
+settled-requires-2 c κs = search needs
+
+returns : tie.Need-returns
+returns c = c .settled .ensures ∙ read-shaped _ _ _ (sym (c .before .before .before .before .before .shape .ensures) ∙ c .before .before .before .enum-told .given .1) (c .before .before .board-at .ensures) (c .before .judged .ensures)
+
+returns-2 : tie.Need-returns-2
+returns-2 c = c .settled2 .ensures ∙ read-unshaped _ _ (sym (c .before .before .before .before .before .shape .ensures) ∙ c .before .before .before .x .given .1)
+
+pub read-board-spec : {M : Type 1} → statement M
+read-board-spec =
+    tie.close
+    (tie.spec
+    shape-requires
+    enum-told
+    board-at-requires
+    judged-requires
+    settled-requires
+    enum-known-x
+    blank-board-requires
+    settled-requires-2
+    returns
+    returns-2)

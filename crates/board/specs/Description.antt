@@ -1,0 +1,99 @@
+-- The board description (document 01, "The board and its record") and when it is refused. Assumes nothing.
+use Prim.Native.Nat.{ℕ, _%_, _≤_}
+use mathlib.Core.Bool.{Bool, true, false, not, _&&_}
+use mathlib.Core.List.{List, []}
+use lib.Dec.{eqb, leb}
+use lib.ListN.{getD, replicate}
+use Rattle.basics.specs.Choice.{pick}
+use Rattle.basics.specs.Every.{allBelow}
+use Rattle.board.specs.declared.Component.{Component}
+use Rattle.board.specs.declared.Board.{Board}
+use Rattle.board.specs.declared.Refusal.{Refusal}
+use Rattle.board.specs.declared.Refusal.the-variants.{TooShort, TooLong, ReservedBit, FirstAboveLast, OptionalMayReset, UuidTwice, CountOutside, NoRoom}
+use Rattle.board.specs.declared.Verdict.{Verdict}
+use Rattle.board.specs.declared.Verdict.the-variants.{Accepted, Refused}
+
+-- 1 to 32 components, 1 to 64 CPUs, a 16-byte UUID
+abbrev pub mostComponents : ℕ
+mostComponents = 32
+
+abbrev pub mostCpus : ℕ
+mostCpus = 64
+
+abbrev pub uuidBytes : ℕ
+uuidBytes = 16
+
+-- what stands in the table past the count
+abbrev pub blank : Component
+blank = record { uuid = replicate uuidBytes 0; capable = false; «may_reset» = false; optional = false; svn = 0 }
+
+-- what a refused reading gives
+abbrev pub blankBoard : Board
+blankBoard = record { components = 0; cpus = 0; first = 0; last = 0; component = replicate mostComponents blank }
+
+-- what the table reads as past its end, which no rule asks for
+abbrev pub absent : Component
+absent = record { uuid = []; capable = false; «may_reset» = false; optional = false; svn = 0 }
+
+abbrev pub componentOf : Board → ℕ → Component
+componentOf b i = getD (b .component) i absent
+
+-- "a multiple of 4 in the range", both ends inside
+unfoldable pub goodEntry : ℕ → ℕ → ℕ → Bool
+goodEntry first last entry = eqb (entry % 4) 0 && (leb first entry && leb entry last)
+
+-- ---- the refusals that a description itself calls for
+
+-- 26: a count outside its limits
+unfoldable pub withinLimit : ℕ → ℕ → Bool
+withinLimit n most = leb 1 n && leb n most
+
+abbrev pub countsOf : Board → Bool
+countsOf b = withinLimit (b .components) mostComponents && withinLimit (b .cpus) mostCpus
+
+pub record Counted (b : Board) : Type 0 where
+  pub someComponents : 1 ≤ b .components
+  pub fewComponents : b .components ≤ mostComponents
+  pub someCpus : 1 ≤ b .cpus
+  pub fewCpus : b .cpus ≤ mostCpus
+
+-- 24: optional with may_reset
+abbrev pub parted : List Component → ℕ → Bool
+parted cs i = not (getD cs i absent .optional && getD cs i absent .«may_reset»)
+
+abbrev pub apart : Board → Bool
+apart b = allBelow (b .components) (parted (b .component))
+
+-- 25: UUID twice
+abbrev pub sameAt : List ℕ → List ℕ → ℕ → Bool
+sameAt u v k = eqb (getD u k 0) (getD v k 0)
+
+abbrev pub sameUuid : List ℕ → List ℕ → Bool
+sameUuid u v = allBelow uuidBytes (sameAt u v)
+
+abbrev pub unlike : List Component → ℕ → ℕ → Bool
+unlike cs i j = not (sameUuid (getD cs j absent .uuid) (getD cs i absent .uuid))
+
+abbrev pub unseen : List Component → ℕ → Bool
+unseen cs i = allBelow i (unlike cs i)
+
+abbrev pub distinct : Board → Bool
+distinct b = allBelow (b .components) (unseen (b .component))
+
+-- 23, 24, 25: first > last; optional with may_reset; UUID twice
+unfoldable pub judgedOf : Board → Verdict
+judgedOf b =
+    pick (leb (b .first) (b .last))
+    (pick (apart b) (pick (distinct b) Accepted (Refused UuidTwice)) (Refused OptionalMayReset))
+    (Refused FirstAboveLast)
+
+-- document 01's number of each refusal
+abbrev pub numberOf : Refusal → ℕ
+numberOf TooShort = 20
+numberOf TooLong = 21
+numberOf ReservedBit = 22
+numberOf FirstAboveLast = 23
+numberOf OptionalMayReset = 24
+numberOf UuidTwice = 25
+numberOf CountOutside = 26
+numberOf NoRoom = 27

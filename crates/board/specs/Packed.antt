@@ -1,0 +1,164 @@
+-- The packed form of a board description (document 01, "Packed forms, most significant bit first"). Assumes nothing.
+use Prim.Native.Nat.{ℕ, _+_, _-_, _*_}
+use mathlib.Core.Bool.{Bool, true, false, _&&_}
+use mathlib.Core.List.{List, [], _∷_, _++_}
+use lib.Dec.{eqb, leb, ltb}
+use lib.ListN.{length}
+use Rattle.basics.specs.Choice.{pick}
+use Rattle.basics.specs.Every.{allBelow}
+use Rattle.basics.specs.Places.{firsts, table, inTurn}
+use Rattle.bitfield.specs.Bits.{valueAt, bytes, put}
+use Rattle.bitfield.specs.Layout.{fieldOf, join}
+use Rattle.board.specs.Description.{mostComponents, uuidBytes, blank, blankBoard, componentOf, countsOf, judgedOf}
+use Rattle.board.specs.declared.Component.{Component}
+use Rattle.board.specs.declared.Board.{Board}
+use Rattle.board.specs.declared.Refusal.the-variants.{TooShort, TooLong, ReservedBit, CountOutside, NoRoom}
+use Rattle.board.specs.declared.Verdict.{Verdict}
+use Rattle.board.specs.declared.Verdict.the-variants.{Accepted, Refused}
+use Rattle.board.specs.declared.ReadBoard.{ReadBoard}
+use Rattle.board.specs.declared.Written.{Written}
+use Rattle.board.specs.declared.Written.the-variants.{Bytes, Nothing}
+
+-- "count of components less 1 (5 bits), of CPUs less 1 (6), zero (5), first (64), last (64)"
+abbrev pub headWidths : List ℕ
+headWidths = 5 ∷ 6 ∷ 5 ∷ 64 ∷ 64 ∷ []
+
+-- "then per component UUID bytes, capable, may_reset, optional (1 each), zero (5), SVN (32)": what follows the UUID
+abbrev pub tailWidths : List ℕ
+tailWidths = 1 ∷ 1 ∷ 1 ∷ 5 ∷ 32 ∷ []
+
+-- "Length 18 + 21n"
+abbrev pub headLength : ℕ
+headLength = 18
+
+abbrev pub tailLength : ℕ
+tailLength = 5
+
+abbrev pub componentLength : ℕ
+componentLength = uuidBytes + tailLength
+
+abbrev pub lengthOf : ℕ → ℕ
+lengthOf n = headLength + componentLength * n
+
+-- the first bit of component i
+abbrev pub startOf : ℕ → ℕ
+startOf i = 8 * lengthOf i
+
+-- ---- what bytes say
+
+abbrev pub headField : List ℕ → ℕ → ℕ
+headField s k = fieldOf headWidths k 0 s
+
+abbrev pub componentsIn : List ℕ → ℕ
+componentsIn s = headField s 0 + 1
+
+abbrev pub uuidAt : List ℕ → ℕ → List ℕ
+uuidAt s at = firsts uuidBytes (λ j. valueAt s (at + 8 * j) 8)
+
+-- field k of those that follow the UUID of the component that starts at bit `at`
+abbrev pub tailField : List ℕ → ℕ → ℕ → ℕ
+tailField s at k = fieldOf tailWidths k (at + 8 * uuidBytes) s
+
+abbrev pub flagAt : List ℕ → ℕ → ℕ → Bool
+flagAt s at k = eqb (tailField s at k) 1
+
+unfoldable pub componentAt : List ℕ → ℕ → Component
+componentAt s at =
+    record { uuid = uuidAt s at; capable = flagAt s at 0; «may_reset» = flagAt s at 1; optional = flagAt s at 2; svn = tailField s at 4 }
+
+-- the components within the count, and blanks past it
+abbrev pub componentsAt : List ℕ → ℕ → List Component
+componentsAt s n = table mostComponents blank n (λ i. componentAt s (startOf i))
+
+unfoldable pub boardAt : List ℕ → Board
+boardAt s =
+    record { components = componentsIn s; cpus = headField s 1 + 1; first = headField s 3; last = headField s 4; component = componentsAt s (componentsIn s) }
+
+-- ---- reading
+
+-- every zero bit of the head and of each component is 0
+abbrev pub zeroAt : List ℕ → ℕ → Bool
+zeroAt s i = eqb (tailField s (startOf i) 3) 0
+
+unfoldable pub reservedClear : List ℕ → ℕ → Bool
+reservedClear s n = eqb (headField s 2) 0 && allBelow n (zeroAt s)
+
+-- 20, 21, 22: too short (under 2 bytes too); too long; reserved bit set
+unfoldable pub shapeOf : List ℕ → Verdict
+shapeOf s =
+    pick (ltb (length s) 2) (Refused TooShort)
+    (pick (ltb (length s) (lengthOf (componentsIn s))) (Refused TooShort)
+    (pick (ltb (lengthOf (componentsIn s)) (length s)) (Refused TooLong)
+    (pick (reservedClear s (componentsIn s)) Accepted (Refused ReservedBit))))
+
+-- a refusal comes with nothing else
+abbrev pub settle : Verdict → ReadBoard → ReadBoard
+settle Accepted r = r
+settle (Refused x) r = record { verdict = Refused x; board = blankBoard }
+
+abbrev pub accepted : Board → ReadBoard
+accepted b = record { verdict = Accepted; board = b }
+
+unfoldable pub readOf : List ℕ → ReadBoard
+readOf s = settle (shapeOf s) (settle (judgedOf (boardAt s)) (accepted (boardAt s)))
+
+-- ---- writing
+
+abbrev pub digitOf : Bool → ℕ
+digitOf true = 1
+digitOf false = 0
+
+-- the flags as three binary digits
+abbrev pub flagsNumber : Component → ℕ
+flagsNumber c = digitOf (c .capable) * 4 + digitOf (c .«may_reset») * 2 + digitOf (c .optional)
+
+abbrev pub headValues : Board → List ℕ
+headValues b = (b .components - 1) ∷ (b .cpus - 1) ∷ 0 ∷ b .first ∷ b .last ∷ []
+
+abbrev pub tailValues : Component → List ℕ
+tailValues c = digitOf (c .capable) ∷ digitOf (c .«may_reset») ∷ digitOf (c .optional) ∷ 0 ∷ c .svn ∷ []
+
+unfoldable pub headBytes : Board → List ℕ
+headBytes b = bytes headLength (join headWidths (headValues b))
+
+unfoldable pub componentBytes : Component → List ℕ
+componentBytes c = c .uuid ++ bytes tailLength (join tailWidths (tailValues c))
+
+abbrev pub bytesAt : Board → ℕ → List ℕ
+bytesAt b i = componentBytes (componentOf b i)
+
+-- a description ends where its counts end
+unfoldable pub bytesOf : Board → List ℕ
+bytesOf b = headBytes b ++ inTurn (b .components) (bytesAt b)
+
+-- 26, 23, 24, 25
+unfoldable pub writableOf : Board → Verdict
+writableOf b = pick (countsOf b) (judgedOf b) (Refused CountOutside)
+
+-- 27 last
+abbrev pub putBy : Verdict → ℕ → ℕ → Written
+putBy (Refused x) room n = Nothing x
+putBy Accepted room n = pick (ltb room n) (Nothing NoRoom) (Bytes n)
+
+unfoldable pub putOf : ℕ → Board → Written
+putOf room b = putBy (writableOf b) room (lengthOf (b .components))
+
+-- how many bytes were written
+abbrev pub lengthIn : Written → ℕ
+lengthIn (Bytes n) = n
+lengthIn (Nothing x) = 0
+
+-- the buffer after a write, and the part that was written: "a refused part is empty", "bytes not written stay"
+abbrev pub bufferBy : Written → List ℕ → Board → List ℕ
+bufferBy (Bytes n) d b = put d 0 (bytesOf b)
+bufferBy (Nothing x) d b = d
+
+abbrev pub bufferOf : List ℕ → Board → List ℕ
+bufferOf d b = bufferBy (putOf (length d) b) d b
+
+abbrev pub partBy : Written → Board → List ℕ
+partBy (Bytes n) b = bytesOf b
+partBy (Nothing x) b = []
+
+abbrev pub partOf : List ℕ → Board → List ℕ
+partOf d b = partBy (putOf (length d) b) b

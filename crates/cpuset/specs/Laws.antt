@@ -1,0 +1,183 @@
+-- The laws by which clients go: a set is what `hasOf` says of it at each number. Assumes nothing.
+use Prim.Native.Nat.{ℕ, _+_, _/_, _%_, _^_, _<_, _≤_}
+use mathlib.Core.Path.{_≡_, refl, sym, ap, _∙_}
+use mathlib.Core.Bool.{Bool, true, false, not, _&&_, _||_, and-false, and-true, or-false, or-true}
+use mathlib.Core.List.{List}
+use native.Mathlib.Nat.{lt-of-le-of-lt}
+use lib.Dec.{ltb, eqb, lit<}
+use lib.ListN.{getD}
+use lib.Seq.{ext-getD}
+use lib.Bits.{bitOr, or-lt, xor-lt, and-le-l}
+use borrow.Author.Tests.{lt-ltb, le-ltb, eqb-true, eq-eqb, ne-eqb, not-false}
+use Rattle.basics.specs.Choice.{not-both}
+use Rattle.basics.specs.Every.{all-at, all-of}
+use Rattle.cpuset.specs.Order.{lt-cases}
+use Rattle.cpuset.specs.Bit.{bit, bit-zero, bit-or, bitLess, bit-less}
+use Rattle.cpuset.specs.Tally.{tally-same, tally-none, tally-zero, tally-more}
+use Rattle.cpuset.specs.Words.{member-tab, member-out, words-tab, words-at, same-words, tally-words, total, onlyIn, bit-only, only-fits, belowIn, bit-below, below-fits}
+use Rattle.cpuset.specs.Set.{wordCount, words, of, room, word, Set, hasOf, noneOf, onlyOf, unionOf, lessOf, withOf, withoutOf, belowOf, sameOf, withinOf, countOf}
+use Rattle.cpuset.specs.declared.CpuSet.{CpuSet}
+
+-- ---- the members
+pub has-out : (s : CpuSet) (j : ℕ) → room ≤ j → hasOf s j ≡ false
+unfolding room hasOf
+has-out s j l = member-out (words s) j l
+
+pub has-room : (s : CpuSet) (j : ℕ) → hasOf s j ≡ true → j < room
+has-room s j h = lt-cases j room (λ l. l) (λ l. absurd (not-both h (has-out s j l)))
+
+-- a set that is made word by word
+has-of : (f : ℕ → ℕ) (j : ℕ) → hasOf (of f) j ≡ (ltb j room && bit (f (j / 64)) (j % 64))
+unfolding room hasOf
+has-of f j = member-tab wordCount f j
+
+-- a set that is made of two others' words
+module _ (op : ℕ → ℕ → ℕ) (g : Bool → Bool → Bool) (law : (a b j : ℕ) → bit (op a b) j ≡ g (bit a j) (bit b j))
+    (none : g false false ≡ false) where
+  has-both : (s t : CpuSet) (j : ℕ) → hasOf (of (λ k. op (word s k) (word t k))) j ≡ g (hasOf s j) (hasOf t j)
+  unfolding hasOf
+  has-both s t j =
+      has-of (λ k. op (word s k) (word t k)) j
+      ∙ lt-cases j room
+      (λ l. rw (lt-ltb j room l) (law (word s (j / 64)) (word t (j / 64)) (j % 64)))
+      (λ l. rw (le-ltb j room l, has-out s j l, has-out t j l) (sym none))
+
+pub has-none : (j : ℕ) → hasOf noneOf j ≡ false
+unfolding noneOf
+has-none j = rw (has-of (λ k. 0) j, bit-zero (j % 64)) (and-false (ltb j room))
+
+pub has-only : (i j : ℕ) → hasOf (onlyOf i) j ≡ (ltb i room && eqb i j)
+unfolding onlyOf
+has-only i j = rw (has-of (onlyIn i) j, bit-only i j) (go (eqb i j) refl)
+  where
+    go : (b : Bool) → eqb i j ≡ b → (ltb j room && b) ≡ (ltb i room && b)
+    go true e = rw (eqb-true i j e)
+    go false e = and-false (ltb j room) ∙ sym (and-false (ltb i room))
+
+pub has-union : (s t : CpuSet) (j : ℕ) → hasOf (unionOf s t) j ≡ (hasOf s j || hasOf t j)
+unfolding unionOf
+has-union s t j = has-both bitOr (λ p q. p || q) bit-or refl s t j
+
+pub has-less : (s t : CpuSet) (j : ℕ) → hasOf (lessOf s t) j ≡ (hasOf s j && not (hasOf t j))
+unfolding lessOf
+has-less s t j = has-both bitLess (λ p q. p && not q) bit-less refl s t j
+
+pub has-with : (s : CpuSet) (i j : ℕ) → hasOf (withOf s i) j ≡ (hasOf s j || ltb i room && eqb i j)
+has-with s i j = rw (has-union, has-only)
+
+pub has-without : (s : CpuSet) (i j : ℕ) → hasOf (withoutOf s i) j ≡ (hasOf s j && not (ltb i room && eqb i j))
+has-without s i j = rw (has-less, has-only)
+
+pub has-below : (n j : ℕ) → hasOf (belowOf n) j ≡ (ltb j room && ltb j n)
+unfolding belowOf
+has-below n j = rw (has-of (belowIn n) j, bit-below n j)
+
+-- ---- what the functions give are sets again
+set-of : (f : ℕ → ℕ) → ((k : ℕ) → f k < 2 ^ 64) → Set (of f)
+unfolding Set
+set-of f h = words-tab wordCount f h
+
+word-fits : (s : CpuSet) → Set s → (k : ℕ) → word s k < 2 ^ 64
+unfolding Set
+word-fits s p k = words-at (words s) p k
+
+pub set-none : Set noneOf
+unfolding noneOf
+set-none = set-of (λ k. 0) (λ k. lit< tt)
+
+pub set-only : (i : ℕ) → Set (onlyOf i)
+unfolding onlyOf
+set-only i = set-of (onlyIn i) (only-fits i)
+
+pub set-union : (s t : CpuSet) → Set s → Set t → Set (unionOf s t)
+unfolding unionOf
+set-union s t p q = set-of _ (λ k. or-lt 64 (word s k) (word t k) (word-fits s p k) (word-fits t q k))
+
+pub set-less : (s t : CpuSet) → Set s → Set (lessOf s t)
+unfolding lessOf
+set-less s t p =
+    set-of _ (λ k. let h = word-fits s p k in xor-lt 64 (word s k) _ h (lt-of-le-of-lt (and-le-l (word s k) (word t k)) h))
+
+pub set-with : (s : CpuSet) (i : ℕ) → Set s → Set (withOf s i)
+set-with s i p = set-union s (onlyOf i) p (set-only i)
+
+pub set-without : (s : CpuSet) (i : ℕ) → Set s → Set (withoutOf s i)
+set-without s i p = set-less s (onlyOf i) p
+
+pub set-below : (n : ℕ) → Set (belowOf n)
+unfolding belowOf
+set-below n = set-of (belowIn n) (below-fits n)
+
+-- ---- equal sets
+by-words : (s t : CpuSet) → words s ≡ words t → s ≡ t
+by-words s t e = ap (λ (ws : List ℕ). of (λ k. getD ws k 0)) e
+
+pub same-members : (s t : CpuSet) → Set s → Set t → ((j : ℕ) → j < room → hasOf s j ≡ hasOf t j) → s ≡ t
+unfolding Set room hasOf
+same-members s t p q h = by-words s t (same-words (words s) (words t) refl p q h)
+
+pub same-is : (s t : CpuSet) → sameOf s t ≡ true → s ≡ t
+unfolding sameOf
+same-is s t e =
+    by-words s t (ext-getD 0 (words s) (words t) refl λ k l. eqb-true (word s k) (word t k) (all-at wordCount _ e k l))
+
+pub same-eq : (s t : CpuSet) → s ≡ t → sameOf s t ≡ true
+unfolding sameOf
+same-eq s t e = all-of wordCount _ λ k l. eq-eqb (word s k) (word t k) (ap (λ (u : CpuSet). word u k) e)
+
+pub none-has : (s : CpuSet) → sameOf s noneOf ≡ true → (j : ℕ) → hasOf s j ≡ false
+none-has s e j = rw (same-is s noneOf e) (has-none j)
+
+pub none-of : (s : CpuSet) → Set s → ((j : ℕ) → j < room → hasOf s j ≡ false) → sameOf s noneOf ≡ true
+none-of s p h = same-eq s noneOf (same-members s noneOf p set-none λ j l. h j l ∙ sym (has-none j))
+
+pub within-has : (s t : CpuSet) → withinOf s t ≡ true → (j : ℕ) → hasOf s j ≡ true → hasOf t j ≡ true
+within-has s t e j h =
+    not-false (hasOf t j) (ap (λ (b : Bool). b && not (hasOf t j)) (sym h) ∙ sym (has-less s t j) ∙ none-has (lessOf s t) e j)
+
+pub within-of : (s t : CpuSet) → Set s → ((j : ℕ) → j < room → hasOf s j ≡ true → hasOf t j ≡ true) → withinOf s t ≡ true
+within-of s t p h = none-of (lessOf s t) (set-less s t p) λ j l. has-less s t j ∙ left (hasOf s j) (hasOf t j) (h j l)
+  where
+    left : (a b : Bool) → (a ≡ true → b ≡ true) → (a && not b) ≡ false
+    left true b f = rw (f refl)
+    left false b f = refl
+
+pub only-out : (i : ℕ) → room ≤ i → onlyOf i ≡ noneOf
+only-out i l = same-members (onlyOf i) noneOf (set-only i) set-none λ j m. rw (has-only, has-none, le-ltb i room l)
+
+-- ---- the number of members
+pub count-none : countOf noneOf ≡ 0
+unfolding countOf
+count-none = tally-none room (hasOf noneOf) has-none
+
+pub count-same : (s t : CpuSet) → ((j : ℕ) → j < room → hasOf s j ≡ hasOf t j) → countOf s ≡ countOf t
+unfolding countOf
+count-same s t h = tally-same room (hasOf s) (hasOf t) h
+
+pub count-zero : (s : CpuSet) → countOf s ≡ 0 → (j : ℕ) → hasOf s j ≡ false
+unfolding countOf
+count-zero s z j = lt-cases j room (tally-zero room (hasOf s) z j) (has-out s j)
+
+only-self : (i : ℕ) → i < room → hasOf (onlyOf i) i ≡ true
+only-self i l = rw (has-only, lt-ltb i room l, eq-eqb i i refl)
+
+only-other : (i j : ℕ) → (j ≡ i → ⊥) → hasOf (onlyOf i) j ≡ false
+only-other i j d = rw (has-only, ne-eqb i j (λ e. d (sym e))) (and-false (ltb i room))
+
+pub count-with : (s : CpuSet) (i : ℕ) → i < room → hasOf s i ≡ false → countOf (withOf s i) ≡ countOf s + 1
+unfolding countOf
+count-with s i l h =
+    tally-more room (hasOf s) (hasOf (withOf s i)) i l h (rw (has-union, only-self i l) (or-true (hasOf s i)))
+    λ j d. rw (has-union, only-other i j d) (sym (or-false (hasOf s j)))
+
+pub count-without : (s : CpuSet) (i : ℕ) → hasOf s i ≡ true → countOf s ≡ countOf (withoutOf s i) + 1
+unfolding countOf
+count-without s i h =
+    let l = has-room s i h in
+    tally-more room (hasOf (withoutOf s i)) (hasOf s) i l (rw (has-less, only-self i l) (and-false (hasOf s i))) h
+    λ j d. rw (has-less, only-other i j d) (and-true (hasOf s j))
+
+-- what the code counts is that
+pub count-words : (s : CpuSet) → Set s → countOf s ≡ total (words s)
+unfolding countOf room hasOf Set
+count-words s p = tally-words (words s) p

@@ -1,0 +1,6 @@
+pub mod Order
+pub mod Bit
+pub mod Tally
+pub mod Words
+pub mod Set
+pub mod Laws
