@@ -2,11 +2,12 @@
 use Prim.Native.Nat.{ℕ, zero, suc, _+_, _<_, _≤_}
 use mathlib.Core.Path.{_≡_, refl, sym, ap, _∙_}
 use mathlib.Core.Bool.{Bool, true, false, _&&_, and-false}
-use mathlib.Core.Logic.{⊎-elim}
+use mathlib.Core.List.{List, [], _∷_}
 use native.Mathlib.Numerals.{add-one}
 use native.Mathlib.Omega.{arith}
-use native.Mathlib.Nat.{not-suc-le-zero, le-of-suc-le-suc, eq-or-lt-of-le, le-antisymm}
+use native.Mathlib.Nat.{not-suc-le-zero, le-antisymm}
 use Rattle.basics.specs.Choice.{and-left, and-right}
+use Rattle.basics.specs.Order.{last-cases}
 
 unfoldable pub allBelow : ℕ → (ℕ → Bool) → Bool
 allBelow zero f = true
@@ -27,7 +28,7 @@ pub all-fails : (n : ℕ) (f : ℕ → Bool) (i : ℕ) → i < n → f i ≡ fal
 unfolding allBelow
 all-fails zero f i l q = absurd (not-suc-le-zero l)
 all-fails (suc n) f i l q =
-    ⊎-elim (λ (e : i ≡ n). rw (sym (ap f e) ∙ q) (sym (and-false (allBelow n f)))) (λ (h : i < n). rw (sym (all-fails n f i h q))) (eq-or-lt-of-le (le-of-suc-le-suc l))
+    last-cases l (λ e. rw (sym (ap f e) ∙ q) (sym (and-false (allBelow n f)))) (λ h. rw (sym (all-fails n f i h q)))
 
 -- the loop ended
 pub all-done : (n : ℕ) (f : ℕ → Bool) (i : ℕ) → i ≤ n → n ≤ i → allBelow i f ≡ true → true ≡ allBelow n f
@@ -38,7 +39,7 @@ pub all-at : (n : ℕ) (f : ℕ → Bool) → allBelow n f ≡ true → (i : ℕ
 unfolding allBelow
 all-at zero f p i l = absurd (not-suc-le-zero l)
 all-at (suc n) f p i l =
-    ⊎-elim (λ (e : i ≡ n). ap f e ∙ and-right (allBelow n f) (f n) p) (λ (h : i < n). all-at n f (and-left (allBelow n f) (f n) p) i h) (eq-or-lt-of-le (le-of-suc-le-suc l))
+    last-cases l (λ e. ap f e ∙ and-right (allBelow n f) (f n) p) (all-at n f (and-left (allBelow n f) (f n) p) i)
 
 -- what a client shows
 pub all-of : (n : ℕ) (f : ℕ → Bool) → ((i : ℕ) → i < n → f i ≡ true) → allBelow n f ≡ true
@@ -51,3 +52,8 @@ pub all-same : (n : ℕ) (f g : ℕ → Bool) → ((i : ℕ) → i < n → f i �
 unfolding allBelow
 all-same zero f g h = refl
 all-same (suc n) f g h = rw (all-same n f g (λ i l. h i (omega arith)), h n (omega arith))
+
+-- every entry of a list of examples holds
+unfoldable pub allHold : List Bool → Bool
+allHold [] = true
+allHold (b ∷ bs) = b && allHold bs

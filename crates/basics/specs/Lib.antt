@@ -1,3 +1,4 @@
 pub mod Choice
+pub mod Order
 pub mod Every
 pub mod Places

@@ -5,15 +5,16 @@ use mathlib.Core.List.{List, [], _∷_, _++_, append-assoc, append-nil}
 use native.Mathlib.Nat.{pow-suc, pow-zero, add-suc, add-zero, mul-assoc, add-assoc, mul-suc, div-div-eq-div-mul}
 use native.Mathlib.Omega.{arith}
 use native.Mathlib.Numerals.{add-one}
-use lib.ListN.{length, getD, take, drop, length-append, take-append-drop}
+use lib.ListN.{length, getD, take, drop, length-append, take-append-drop, List·getD-eq-default}
 use lib.Seq.{paste, length-take-le, drop-drop, drop-append-add, take-length, take-all, take-at, drop-at, length-paste, length-paste-head, drop-paste, take-paste}
 use lib.Pow.{pow-mono}
 use mathlib.Core.Bool.{Bool, true, false}
 use lib.Dec.{leb}
 use borrow.Author.Tests.{le-leb, lt-leb}
 use Rattle.basics.specs.Choice.{pick-cases}
-use Rattle.basics.specs.Places.{inTurn, inTurn-more}
-use Rattle.bitfield.specs.Bits.{widest, widestBytes, bitAt, valueAt, fieldAt, valueIn, bytes, put, roomFor, written}
+use Rattle.basics.specs.Places.{firsts, length-firsts, getD-firsts, inTurn, inTurn-more}
+use Rattle.basics.specs.Order.{lt-cases}
+use Rattle.bitfield.specs.Bits.{AreBytes, widest, widestBytes, bitAt, valueAt, fieldAt, valueIn, bytes, put, roomFor, written}
 
 pub bit-lt : (s : List ℕ) (p : ℕ) → bitAt s p < 2
 unfolding bitAt
@@ -78,6 +79,12 @@ unfolding bytes
 getD-bytes zero x i h = absurd (omega arith)
 getD-bytes (suc n) x zero h = let e : suc n - 1 - 0 ≡ n = omega arith in rw e
 getD-bytes (suc n) x (suc i) h = let e : suc n - 1 - suc i ≡ n - 1 - i = omega arith in rw e (getD-bytes n x i (omega arith))
+
+-- a list by its places is bytes where each place is one
+pub firsts-bytes : (n : ℕ) (f : ℕ → ℕ) → ((i : ℕ) → f i < 256) → AreBytes (firsts n f)
+firsts-bytes n f h i =
+    lt-cases i n (λ l. rw (getD-firsts f n i 0 l) (h i))
+    (λ l. rw (List·getD-eq-default (firsts n f) 0 {n = i} (omega (arith, length-firsts f n))) (omega arith))
 
 -- ---- writing
 

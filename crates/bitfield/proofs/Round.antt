@@ -2,15 +2,17 @@
 use Prim.Native.Nat.{ℕ, zero, suc, _+_, _-_, _*_, _/_, _%_, _^_, _≤_, _<_}
 use mathlib.Core.Path.{_≡_, refl, sym, ap, _∙_}
 use mathlib.Core.List.{List, [], _∷_, _++_, append-assoc}
-use native.Mathlib.Nat.{pow-suc, pow-zero, add-suc, add-zero, mul-assoc, add-assoc, div-div-eq-div-mul, mod-eq-of-lt, mul-suc, add-comm, add-mul-div-right, zero-add, suc-add, add-mul}
+use native.Mathlib.Nat.{pow-suc, pow-zero, add-suc, add-zero, mul-assoc, add-assoc, div-div-eq-div-mul, mod-eq-of-lt, mul-suc, mul-le-mul-left, add-comm, add-mul-div-right, zero-add, suc-add, add-mul}
 use native.Mathlib.Omega.{arith}
 use native.Mathlib.Numerals.{add-one}
 use lib.ListN.{length, getD, take, drop, List·getD-append, take-append-drop}
 use lib.Seq.{getD-drop, drop-append-seam, length-take-le}
 use lib.Pow.{pow-add, mod-pow-add, high, low, pow-pos}
 use lib.Arith.{digits-lt}
-use Rattle.bitfield.specs.Bits.{Bytes, bitAt, valueAt, bytes}
-use Rattle.bitfield.specs.Layout.{total, fields, join, Fit}
+use Rattle.basics.specs.Order.{last-cases}
+use Rattle.basics.specs.Places.{firsts, firsts-front, firsts-same, inTurn, length-inTurn}
+use Rattle.bitfield.specs.Bits.{AreBytes, bitAt, valueAt, bytes}
+use Rattle.bitfield.specs.Layout.{total, fields, fieldOf, join, Fit}
 use Rattle.bitfield.proofs.Laws.{value-join, value-byte, value-lt, length-bytes}
 
 -- ---- a field of a part
@@ -38,6 +40,19 @@ pub value-front : (l m : List ℕ) (at w : ℕ) → at + w ≤ 8 * length l → 
 unfolding valueAt
 value-front l m at zero h = refl
 value-front l m at (suc w) h = rw (value-front l m at w (omega arith), bit-front l m (at + w) (omega arith))
+
+-- a field of one of n equal parts
+pub value-inTurn : (f : ℕ → List ℕ) (m n : ℕ) → ((i : ℕ) → i < n → length (f i) ≡ m) → (i p w : ℕ) → i < n → p + w ≤ 8 * m → valueAt (inTurn n f) (8 * (m * i) + p) w ≡ valueAt (f i) p w
+unfolding inTurn
+value-inTurn f m zero l i p w h g = absurd (omega arith)
+value-inTurn f m (suc n) l i p w h g =
+    let e = length-inTurn f m n (λ j q. l j (omega arith)) in
+    last-cases h
+    (λ q. rw q (rw (← e) (value-after (inTurn n f) (f n) p w)))
+    (λ q.
+    let b : m * suc i ≤ m * n = mul-le-mul-left m q in
+    value-front (inTurn n f) (f n) (8 * (m * i) + p) w (omega (arith, mul-suc m i))
+    ∙ value-inTurn f m n (λ j r. l j (omega arith)) i p w q g)
 
 -- ---- one number
 
@@ -68,7 +83,7 @@ bytes-low (suc n) x y =
     rw (add-comm (x * 256 * 2 ^ (8 * n)) y, add-mul-div-right y (x * 256) (pow-pos (8 * n))) (omega arith) in
     rw (p, q, bytes-low n (x * 256) y)
 
-pub bytes-value : (s : List ℕ) → Bytes s → bytes (length s) (valueAt s 0 (8 * length s)) ≡ s
+pub bytes-value : (s : List ℕ) → AreBytes s → bytes (length s) (valueAt s 0 (8 * length s)) ≡ s
 unfolding bytes
 bytes-value [] h = refl
 bytes-value (b ∷ s) h =
@@ -110,6 +125,19 @@ fields-join (w ∷ ws) (v ∷ vs) at s f e =
     let bot : valueAt s (at + w) k ≡ join ws vs = sym (low (valueAt s at w) k lo) ∙ ap (λ (x : ℕ). x % 2 ^ k) q ∙ low v k lt in
     rw (top, fields-join ws vs (at + w) s (f .1) bot)
 
+-- the fields one by one
+pub fields-are : (ws : List ℕ) (at : ℕ) (s : List ℕ) → fields ws at s ≡ firsts (length ws) (λ k. fieldOf ws k at s)
+unfolding fields firsts
+fields-are [] at s = refl
+fields-are (w ∷ ws) at s =
+    rw (firsts-front (length ws) (λ k. fieldOf (w ∷ ws) k at s), add-zero, fields-are ws (at + w) s)
+    (ap (λ (l : List ℕ). valueAt s at w ∷ l) (firsts-same (length ws) _ _ (λ k h. rw add-assoc)))
+
+pub fields-drop : (ws : List ℕ) (k p : ℕ) (s : List ℕ) → fields ws p (drop k s) ≡ fields ws (8 * k + p) s
+unfolding fields
+fields-drop [] k p s = refl
+fields-drop (w ∷ ws) k p s = rw (value-drop s k p w, fields-drop ws k (p + w) s, add-assoc)
+
 -- ---- the round trip, of a layout of n whole bytes
 
 -- what was written is read, whatever follows
@@ -121,7 +149,7 @@ read-written ws vs n rest e f =
     (rw (value-front (bytes n x) rest 0 (total ws) (omega arith), ← e, value-bytes n x, e, mod-eq-of-lt (join-lt ws vs f)))
 
 -- what was read is written
-pub written-read : (ws s : List ℕ) → 8 * length s ≡ total ws → Bytes s → bytes (length s) (join ws (fields ws 0 s)) ≡ s
+pub written-read : (ws s : List ℕ) → 8 * length s ≡ total ws → AreBytes s → bytes (length s) (join ws (fields ws 0 s)) ≡ s
 written-read ws s e h = rw (join-fields ws 0 s, ← e, bytes-value s h)
 
 -- the fields of a front
@@ -130,14 +158,14 @@ unfolding fields
 fields-front [] l m at h = refl
 fields-front (w ∷ ws) l m at h = rw (value-front l m at w (omega arith), fields-front ws l m (at + w) (omega arith))
 
-pub take-bytes : (n : ℕ) (s : List ℕ) → Bytes s → Bytes (take n s)
+pub take-bytes : (n : ℕ) (s : List ℕ) → AreBytes s → AreBytes (take n s)
 take-bytes zero s b i = omega arith
 take-bytes (suc n) [] b i = omega arith
 take-bytes (suc n) (x ∷ s) b zero = b 0
 take-bytes (suc n) (x ∷ s) b (suc i) = take-bytes n s (λ j. b (suc j)) i
 
 -- what was read from a front is written there
-pub written-front : (ws s : List ℕ) (n : ℕ) → n ≤ length s → 8 * n ≡ total ws → Bytes s → bytes n (join ws (fields ws 0 s)) ≡ take n s
+pub written-front : (ws s : List ℕ) (n : ℕ) → n ≤ length s → 8 * n ≡ total ws → AreBytes s → bytes n (join ws (fields ws 0 s)) ≡ take n s
 written-front ws s n h e b =
     let t = take n s in
     let l : length t ≡ n = length-take-le n s h in

@@ -17,8 +17,8 @@ abbrev pub widestBytes : ℕ
 widestBytes = 8
 
 -- what a slice of bytes holds
-abbrev pub Bytes : List ℕ → Type 0
-Bytes s = (i : ℕ) → getD s i 0 < 256
+abbrev pub AreBytes : List ℕ → Type 0
+AreBytes s = (i : ℕ) → getD s i 0 < 256
 
 -- bit p of the bytes s, 0 or 1; bit 0 is the first byte's most significant
 unfoldable pub bitAt : List ℕ → ℕ → ℕ

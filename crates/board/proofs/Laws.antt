@@ -6,7 +6,7 @@ use mathlib.Core.List.{List, [], _∷_, _++_, append-assoc}
 use native.Mathlib.Omega.{arith}
 use lib.Dec.{leb, ltb}
 use lib.ListN.{length, take, length-append}
-use borrow.Author.Tests.{leb-true, ltb-false, lt-ltb, le-ltb}
+use borrow.Author.Tests.{leb-true, le-leb, ltb-false, lt-ltb, le-ltb}
 use Rattle.basics.specs.Choice.{pick, pick-cases, yes, no, and-left, and-right}
 use Rattle.basics.specs.Places.{inTurn}
 use Rattle.bitfield.specs.Bits.{bytes, put}
@@ -72,6 +72,10 @@ counted b e =
       someCpus = leb-true _ _ (and-left (leb 1 (b .cpus)) (leb (b .cpus) mostCpus) q);
       fewCpus = leb-true _ _ (and-right (leb 1 (b .cpus)) (leb (b .cpus) mostCpus) q);
     }
+
+pub counts : (b : Board) → Counted b → countsOf b ≡ true
+unfolding withinLimit
+counts b k = simp (le-leb _ _ (k .someComponents), le-leb _ _ (k .fewComponents), le-leb _ _ (k .someCpus), le-leb _ _ (k .fewCpus))
 
 pub writable-counted : (b : Board) → writableOf b ≡ Accepted → Counted b
 unfolding writableOf

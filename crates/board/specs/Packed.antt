@@ -1,5 +1,6 @@
 -- The packed form of a board description (document 01, "Packed forms, most significant bit first"). Assumes nothing.
-use Prim.Native.Nat.{ℕ, _+_, _-_, _*_}
+use Prim.Native.Nat.{ℕ, _+_, _-_, _*_, _^_, _<_}
+use mathlib.Core.Path.{_≡_}
 use mathlib.Core.Bool.{Bool, true, false, _&&_}
 use mathlib.Core.List.{List, [], _∷_, _++_}
 use lib.Dec.{eqb, leb, ltb}
@@ -7,7 +8,7 @@ use lib.ListN.{length}
 use Rattle.basics.specs.Choice.{pick}
 use Rattle.basics.specs.Every.{allBelow}
 use Rattle.basics.specs.Places.{firsts, table, inTurn}
-use Rattle.bitfield.specs.Bits.{valueAt, bytes, put}
+use Rattle.bitfield.specs.Bits.{AreBytes, valueAt, bytes, put}
 use Rattle.bitfield.specs.Layout.{fieldOf, join}
 use Rattle.board.specs.Description.{mostComponents, uuidBytes, blank, blankBoard, componentOf, countsOf, judgedOf}
 use Rattle.board.specs.declared.Component.{Component}
@@ -162,3 +163,17 @@ partBy (Nothing x) b = []
 
 abbrev pub partOf : List ℕ → Board → List ℕ
 partOf d b = partBy (putOf (length d) b) b
+
+-- ---- what reads back
+
+-- what the types of a board's fields say of their values
+pub record Described (b : Board) : Type 0 where
+  pub first : b .first < 2 ^ 64
+  pub last : b .last < 2 ^ 64
+  pub uuid : (i : ℕ) → i < b .components → (length (componentOf b i .uuid) ≡ uuidBytes) × AreBytes (componentOf b i .uuid)
+  pub svn : (i : ℕ) → i < b .components → componentOf b i .svn < 2 ^ 32
+
+-- a board with blanks past its count
+abbrev pub trimmed : Board → Board
+trimmed b =
+    record { components = b .components; cpus = b .cpus; first = b .first; last = b .last; component = table mostComponents blank (b .components) (componentOf b) }

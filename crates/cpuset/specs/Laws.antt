@@ -11,7 +11,7 @@ use lib.Bits.{bitOr, or-lt, xor-lt, and-le-l}
 use borrow.Author.Tests.{lt-ltb, le-ltb, eqb-true, eq-eqb, ne-eqb, not-false}
 use Rattle.basics.specs.Choice.{not-both}
 use Rattle.basics.specs.Every.{all-at, all-of}
-use Rattle.cpuset.specs.Order.{lt-cases}
+use Rattle.basics.specs.Order.{lt-cases}
 use Rattle.cpuset.specs.Bit.{bit, bit-zero, bit-or, bitLess, bit-less}
 use Rattle.cpuset.specs.Tally.{tally-same, tally-none, tally-zero, tally-more}
 use Rattle.cpuset.specs.Words.{member-tab, member-out, words-tab, words-at, same-words, tally-words, total, onlyIn, bit-only, only-fits, belowIn, bit-below, below-fits}

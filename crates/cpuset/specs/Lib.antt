@@ -1,4 +1,3 @@
-pub mod Order
 pub mod Bit
 pub mod Tally
 pub mod Words

@@ -5,7 +5,7 @@ use mathlib.Core.Bool.{Bool, true, false}
 use native.Mathlib.Nat.{add-zero, add-suc, add-assoc, not-suc-le-zero}
 use native.Mathlib.Omega.{arith}
 use Rattle.basics.specs.Choice.{pick}
-use Rattle.cpuset.specs.Order.{last-cases}
+use Rattle.basics.specs.Order.{last-cases}
 
 unfoldable pub tally : ℕ → (ℕ → Bool) → ℕ
 tally zero f = 0

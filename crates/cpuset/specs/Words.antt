@@ -12,7 +12,7 @@ use lib.Seq.{ext-getD}
 use lib.Count.{ones, ones-step}
 use borrow.Author.Tests.{eqb-true, eqb-false, eq-eqb, ne-eqb}
 use Rattle.basics.specs.Choice.{pick, pick-cases}
-use Rattle.cpuset.specs.Order.{same-ltb}
+use Rattle.basics.specs.Order.{same-ltb}
 use Rattle.cpuset.specs.Bit.{bit, bit-first, bit-rest, bit-zero, bit-pow, bit-ones, digit, same-bits}
 use Rattle.cpuset.specs.Tally.{tally, tally-same, tally-first, tally-split}
 

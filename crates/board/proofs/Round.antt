@@ -1,0 +1,302 @@
+-- A description that was written reads back, and bytes that read are those that writing gives. Assumes nothing.
+use Prim.Native.Nat.{ℕ, _+_, _-_, _*_, _^_, _<_, _≤_}
+use mathlib.Core.Path.{_≡_, refl, sym, ap, ap₂, _∙_}
+use mathlib.Core.Bool.{Bool, true, false, not, _&&_}
+use mathlib.Core.List.{List, [], _∷_, _++_, append-nil}
+use native.Mathlib.Omega.{arith}
+use native.Mathlib.Nat.{add-zero, add-assoc}
+use lib.Dec.{eqb, leb, ltb}
+use lib.ListN.{length, getD, take, drop, length-append, length-drop, take-append-drop}
+use lib.Seq.{take-all, length-take-le, take-add, drop-drop, getD-drop}
+use borrow.Author.Tests.{eqb-true, eqb-false, eq-eqb, ne-eqb, le-ltb, lt-ltb}
+use Rattle.basics.specs.Choice.{pick, yes, no, and-left, and-right}
+use Rattle.basics.specs.Every.{allBelow, all-of, all-at, all-same}
+use Rattle.basics.specs.Places.{firsts, table, inTurn, length-inTurn, inTurn-same, inTurn-parts, firsts-same, firsts-part, getD-table, length-firsts}
+use Rattle.bitfield.specs.Bits.{AreBytes, valueAt, bytes}
+use Rattle.bitfield.specs.Layout.{fields, fieldOf, join, Fit}
+use Rattle.bitfield.proofs.Laws.{length-bytes, value-lt, value-byte, firsts-bytes}
+use Rattle.bitfield.proofs.Round.{value-front, value-after, value-inTurn, fields-are, fields-drop, read-written, written-front}
+use Rattle.board.specs.Description.{mostComponents, uuidBytes, blank, absent, componentOf, countsOf, sameUuid, parted, unseen, unlike, apart, distinct, judgedOf, Counted}
+use Rattle.board.specs.Packed.{headWidths, tailWidths, headLength, tailLength, componentLength, lengthOf, startOf, headField, componentsIn, uuidAt, tailField, flagAt, componentAt, boardAt, zeroAt, reservedClear, shapeOf, settle, accepted, readOf, digitOf, headValues, tailValues, headBytes, componentBytes, bytesAt, bytesOf, writableOf, Described, trimmed}
+use Rattle.board.specs.declared.Component.{Component}
+use Rattle.board.specs.declared.Board.{Board}
+use Rattle.board.specs.declared.ReadBoard.{ReadBoard}
+use Rattle.board.specs.declared.Refusal.the-variants.{CountOutside}
+use Rattle.board.specs.declared.Verdict.{Verdict}
+use Rattle.board.specs.declared.Verdict.the-variants.{Accepted, Refused}
+use Rattle.board.proofs.Laws.{digit-fits, counts, writable-counted, Shaped, shape-accepted}
+
+flag-digit : (b : Bool) → eqb (digitOf b) 1 ≡ b
+flag-digit true = refl
+flag-digit false = refl
+
+digit-flag : (x : ℕ) → x < 2 → digitOf (eqb x 1) ≡ x
+digit-flag x h = go (eqb x 1) refl
+  where
+    go : (t : Bool) → eqb x 1 ≡ t → digitOf t ≡ x
+    go true e = sym (eqb-true x 1 e)
+    go false e = let z = eqb-false x 1 e in omega arith
+
+-- ---- what is written: its places
+
+module _ (b : Board) (d : Described b) (k : Counted b) where
+  abbrev bs : List ℕ
+  bs = bytesOf b
+
+  each-long : (i : ℕ) → i < b .components → length (bytesAt b i) ≡ componentLength
+  unfolding componentBytes
+  each-long i l =
+      omega (arith, length-append (componentOf b i .uuid) (bytes tailLength (join tailWidths (tailValues (componentOf b i)))), length-bytes tailLength (join tailWidths (tailValues (componentOf b i))), d .uuid i l .0)
+
+  head-long : length (headBytes b) ≡ headLength
+  unfolding headBytes
+  head-long = length-bytes headLength _
+
+  bytes-long : length bs ≡ lengthOf (b .components)
+  unfolding bytesOf
+  bytes-long =
+      omega (arith, length-append (headBytes b) (inTurn (b .components) (bytesAt b)), head-long, length-inTurn (bytesAt b) componentLength (b .components) each-long)
+
+  head-fits : Fit headWidths (headValues b)
+  head-fits = (omega arith, (omega arith, (omega arith, (d .first, (d .last, tt)))))
+
+  head-fields : fields headWidths 0 bs ≡ headValues b
+  unfolding bytesOf headBytes
+  head-fields = read-written headWidths (headValues b) headLength (inTurn (b .components) (bytesAt b)) refl head-fits
+
+  head-back : (headField bs 0 ≡ b .components - 1) × (headField bs 1 ≡ b .cpus - 1) × (headField bs 2 ≡ 0) × (headField bs 3 ≡ b .first) × (headField bs 4 ≡ b .last)
+  unfolding fields
+  head-back =
+      let at : (i : ℕ) → getD (fields headWidths 0 bs) i 0 ≡ getD (headValues b) i 0 = λ i. ap (λ (l : List ℕ). getD l i 0) head-fields in
+      (at 0, at 1, at 2, at 3, at 4)
+
+  count-back : componentsIn bs ≡ b .components
+  count-back = omega (arith, head-back .0)
+
+  module _ (i : ℕ) (l : i < b .components) where
+    abbrev c : Component
+    c = componentOf b i
+
+    abbrev tail : List ℕ
+    tail = bytes tailLength (join tailWidths (tailValues c))
+
+    part-value : (p w : ℕ) → p + w ≤ 8 * componentLength → valueAt bs (startOf i + p) w ≡ valueAt (c .uuid ++ tail) p w
+    unfolding bytesOf componentBytes
+    part-value p w h =
+        let e : startOf i + p ≡ 8 * length (headBytes b) + (8 * (componentLength * i) + p) = omega (arith, head-long) in
+        rw e (value-after (headBytes b) (inTurn (b .components) (bytesAt b)) (8 * (componentLength * i) + p) w)
+        ∙ value-inTurn (bytesAt b) componentLength (b .components) each-long i p w l h
+
+    uuid-back : uuidAt bs (startOf i) ≡ c .uuid
+    uuid-back =
+        let u = d .uuid i l in
+        firsts-same uuidBytes (λ j. valueAt bs (startOf i + 8 * j) 8) (λ j. getD (c .uuid) (0 + j) 0)
+        (λ j h.
+        part-value (8 * j) 8 (omega arith)
+        ∙ value-front (c .uuid) tail (8 * j) 8 (omega (arith, u .0))
+        ∙ value-byte (c .uuid) j (u .1 j)
+        ∙ ap (λ (n : ℕ). getD (c .uuid) n 0) (omega arith))
+        ∙ firsts-part uuidBytes 0 (c .uuid) 0 (omega (arith, u .0))
+        ∙ take-all uuidBytes (c .uuid) (omega (arith, u .0))
+
+    tail-fields : fields tailWidths 0 tail ≡ tailValues c
+    tail-fields =
+        ap (fields tailWidths 0) (sym (append-nil tail))
+        ∙ read-written tailWidths (tailValues c) tailLength [] refl
+        (digit-fits (c .capable), (digit-fits (c .«may_reset»), (digit-fits (c .optional), (omega arith, (d .svn i l, tt)))))
+
+    tail-value : (o w : ℕ) → o + w ≤ 8 * tailLength → valueAt bs (startOf i + 8 * uuidBytes + o) w ≡ valueAt tail o w
+    tail-value o w h =
+        let u = d .uuid i l .0 in
+        let e : 8 * uuidBytes + o ≡ 8 * length (c .uuid) + o = omega arith in
+        ap (λ (p : ℕ). valueAt bs p w) (add-assoc (startOf i) (8 * uuidBytes) o)
+        ∙ part-value (8 * uuidBytes + o) w (omega arith)
+        ∙ ap (λ (p : ℕ). valueAt (c .uuid ++ tail) p w) e
+        ∙ value-after (c .uuid) tail o w
+
+    component-back : componentAt bs (startOf i) ≡ c
+    unfolding componentAt fields
+    component-back =
+        let at : (n : ℕ) → getD (fields tailWidths 0 tail) n 0 ≡ getD (tailValues c) n 0 = λ n. ap (λ (v : List ℕ). getD v n 0) tail-fields in
+        rw (uuid-back, tail-value 0 1 (omega arith) ∙ at 0, tail-value 1 1 (omega arith) ∙ at 1, tail-value 2 1 (omega arith) ∙ at 2, tail-value 8 32 (omega arith) ∙ at 4, flag-digit (c .capable), flag-digit (c .«may_reset»), flag-digit (c .optional))
+
+    zero-back : zeroAt bs i ≡ true
+    unfolding fields
+    zero-back = eq-eqb _ _ (tail-value 3 5 (omega arith) ∙ ap (λ (v : List ℕ). getD v 3 0) tail-fields)
+
+  board-back : boardAt bs ≡ trimmed b
+  unfolding boardAt
+  board-back =
+      let h = head-back in
+      let one : b .components - 1 + 1 ≡ b .components = omega arith in
+      let two : b .cpus - 1 + 1 ≡ b .cpus = omega arith in
+      rw (h .0, h .1, h .3, h .4, one, two, firsts-same (b .components) (λ i. componentAt bs (startOf i)) (componentOf b) component-back)
+
+  reserved-back : reservedClear bs (componentsIn bs) ≡ true
+  unfolding reservedClear
+  reserved-back = rw (eq-eqb _ _ (head-back .2), count-back) (all-of (b .components) (zeroAt bs) zero-back)
+
+  shape-back : shapeOf bs ≡ Accepted
+  unfolding shapeOf
+  shape-back =
+      let n = bytes-long in
+      let m : lengthOf (componentsIn bs) ≡ length bs = rw count-back (sym n) in
+      sym (no _ (le-ltb (length bs) 2 (omega arith))
+      (no _ (le-ltb (length bs) (lengthOf (componentsIn bs)) (omega arith))
+      (no _ (le-ltb (lengthOf (componentsIn bs)) (length bs) (omega arith)) (yes _ reserved-back refl))))
+
+-- ---- the rules look only within the counts
+
+module _ (b : Board) where
+  within : (i : ℕ) → i < b .components → componentOf (trimmed b) i ≡ componentOf b i
+  within i l = getD-table (componentOf b) mostComponents blank (b .components) i absent l
+
+  pub judged-trimmed : judgedOf (trimmed b) ≡ judgedOf b
+  unfolding judgedOf
+  judged-trimmed =
+      let t = trimmed b .component in
+      let p : apart (trimmed b) ≡ apart b = all-same (b .components) (parted t) (parted (b .component)) (λ i l. ap (λ (c : Component). not (c .optional && c .«may_reset»)) (within i l)) in
+      let q : distinct (trimmed b) ≡ distinct b =
+      all-same (b .components) (unseen t) (unseen (b .component))
+      (λ i l. all-same i (unlike t i) (unlike (b .component) i)
+      (λ j m. ap₂ (λ (x y : Component). not (sameUuid (x .uuid) (y .uuid))) (within j (omega arith)) (within i l))) in
+      rw (p, q)
+
+  writable-judged : writableOf b ≡ Accepted → judgedOf b ≡ Accepted
+  unfolding writableOf
+  writable-judged e = go (countsOf b) e
+    where
+      go : (t : Bool) → pick t (judgedOf b) (Refused CountOutside) ≡ Accepted → judgedOf b ≡ Accepted
+      go true h = h
+      go false h = let z : _≡_ {A = ℕ} 0 1 = cc in absurd (omega arith)
+
+  -- a description that the writer takes reads back as written, with blanks past its count
+  pub reads-back : Described b → writableOf b ≡ Accepted → readOf (bytesOf b) ≡ accepted (trimmed b)
+  unfolding readOf
+  reads-back d w =
+      let k = writable-counted b w in
+      rw (shape-back b d k, board-back b d k, judged-trimmed, writable-judged w)
+
+-- ---- what is read: its places
+
+module _ (s : List ℕ) (bs : AreBytes s) (sh : Shaped s) where
+  abbrev n : ℕ
+  n = componentsIn s
+
+  head-zero : headField s 2 ≡ 0
+  unfolding reservedClear
+  head-zero = eqb-true _ _ (and-left (eqb (headField s 2) 0) (allBelow n (zeroAt s)) (sh .clear))
+
+  component-zero : (i : ℕ) → i < n → tailField s (startOf i) 3 ≡ 0
+  unfolding reservedClear
+  component-zero i l = eqb-true _ _ (all-at n (zeroAt s) (and-right (eqb (headField s 2) 0) (allBelow n (zeroAt s)) (sh .clear)) i l)
+
+  head-values : headValues (boardAt s) ≡ fields headWidths 0 s
+  unfolding boardAt fields
+  head-values =
+      let one : headField s 0 + 1 - 1 ≡ headField s 0 = omega arith in
+      let two : headField s 1 + 1 - 1 ≡ headField s 1 = omega arith in
+      rw (one, two, head-zero)
+
+  head-again : headBytes (boardAt s) ≡ take headLength s
+  unfolding headBytes
+  head-again = rw head-values (written-front headWidths s headLength (omega (arith, sh .whole)) refl bs)
+
+  module _ (i : ℕ) (l : i < n) where
+    abbrev at : ℕ
+    at = startOf i
+
+    inside : lengthOf i + componentLength ≤ length s
+    inside = omega (arith, sh .whole)
+
+    uuid-again : uuidAt s at ≡ take uuidBytes (drop (lengthOf i) s)
+    uuid-again =
+        firsts-same uuidBytes (λ j. valueAt s (at + 8 * j) 8) (λ j. getD s (lengthOf i + j) 0)
+        (λ j h. ap (λ (p : ℕ). valueAt s p 8) (omega arith) ∙ value-byte s (lengthOf i + j) (bs (lengthOf i + j)))
+        ∙ firsts-part uuidBytes (lengthOf i) s 0 (omega (arith, inside))
+
+    flag : (k : ℕ) → fieldOf tailWidths k (at + 8 * uuidBytes) s < 2 → digitOf (flagAt s at k) ≡ tailField s at k
+    flag k h = digit-flag (tailField s at k) h
+
+    tail-values : tailValues (componentAt s at) ≡ fields tailWidths (at + 8 * uuidBytes) s
+    unfolding componentAt firsts
+    tail-values =
+        rw (fields-are tailWidths (at + 8 * uuidBytes) s, component-zero i l, flag 0 (value-lt s (at + 8 * uuidBytes + 0) 1), flag 1 (value-lt s (at + 8 * uuidBytes + 1) 1), flag 2 (value-lt s (at + 8 * uuidBytes + 2) 1))
+
+    tail-again : bytes tailLength (join tailWidths (tailValues (componentAt s at))) ≡ take tailLength (drop (lengthOf i + uuidBytes) s)
+    tail-again =
+        let e : at + 8 * uuidBytes ≡ 8 * (lengthOf i + uuidBytes) + 0 = omega arith in
+        let t = drop (lengthOf i + uuidBytes) s in
+        rw (tail-values, e, ← fields-drop tailWidths (lengthOf i + uuidBytes) 0 s)
+        (written-front tailWidths t tailLength (omega (arith, length-drop (lengthOf i + uuidBytes) s, inside)) refl (λ j. rw getD-drop (bs (lengthOf i + uuidBytes + j))))
+
+    component-again : componentBytes (componentAt s at) ≡ take componentLength (drop (lengthOf i) s)
+    unfolding componentBytes componentAt
+    component-again =
+        rw (uuid-again, tail-again, take-add uuidBytes tailLength (drop (lengthOf i) s), drop-drop)
+
+  bytes-again : bytesOf (boardAt s) ≡ s
+  unfolding bytesOf boardAt
+  bytes-again =
+      let f : ℕ → Component = λ i. componentAt s (startOf i) in
+      let each : (i : ℕ) → i < n → bytesAt (boardAt s) i ≡ take componentLength (drop (headLength + componentLength * i) s) =
+      λ i l. ap componentBytes (getD-table f mostComponents blank n i absent l) ∙ component-again i l in
+      let rest : take (componentLength * n) (drop headLength s) ≡ drop headLength s =
+      take-all (componentLength * n) (drop headLength s) (omega (arith, length-drop headLength s, sh .whole)) in
+      rw (head-again, inTurn-same n (bytesAt (boardAt s)) (λ i. take componentLength (drop (headLength + componentLength * i) s)) each, inTurn-parts componentLength n headLength s, rest)
+      (take-append-drop headLength s)
+
+-- what an accepted reading tells
+record Read (s : List ℕ) (b : Board) (v w : Verdict) : Type 0 where
+  shaped : v ≡ Accepted
+  judged : w ≡ Accepted
+  says : boardAt s ≡ b
+
+read-inv : (s : List ℕ) (b : Board) → readOf s ≡ accepted b → Read s b (shapeOf s) (judgedOf (boardAt s))
+unfolding readOf
+read-inv s b e = go (shapeOf s) (judgedOf (boardAt s)) e
+  where
+    go : (v w : Verdict) → settle v (settle w (accepted (boardAt s))) ≡ accepted b → Read s b v w
+    go (Refused x) w h = let v = ap (λ (r : ReadBoard). r .verdict) h in let z : _≡_ {A = ℕ} 0 1 = cc in absurd (omega arith)
+    go Accepted (Refused x) h = let v = ap (λ (r : ReadBoard). r .verdict) h in let z : _≡_ {A = ℕ} 0 1 = cc in absurd (omega arith)
+    go Accepted Accepted h = record { shaped = refl; judged = refl; says = ap (λ (r : ReadBoard). r .board) h }
+
+-- bytes that read are those that writing what they say gives
+pub writes-back : (s : List ℕ) (b : Board) → AreBytes s → readOf s ≡ accepted b → bytesOf b ≡ s
+writes-back s b bs e =
+    let i = read-inv s b e in rw (← i .says) (bytes-again s bs (shape-accepted s (i .shaped)))
+
+-- so each readable description has a single byte form
+pub single-form : (s t : List ℕ) (b : Board) → AreBytes s → AreBytes t → readOf s ≡ accepted b → readOf t ≡ accepted b → s ≡ t
+single-form s t b p q e f = sym (writes-back s b p e) ∙ writes-back t b q f
+
+-- ---- what reads can be written, and reads back
+
+read-counted : (s : List ℕ) → Counted (boardAt s)
+unfolding boardAt
+read-counted s =
+    record {
+      someComponents = omega arith;
+      fewComponents = omega (arith, value-lt s 0 5);
+      someCpus = omega arith;
+      fewCpus = omega (arith, value-lt s 5 6);
+    }
+
+read-described : (s : List ℕ) → Described (boardAt s)
+unfolding boardAt componentAt
+read-described s =
+    let n = componentsIn s in
+    let f : ℕ → Component = λ i. componentAt s (startOf i) in
+    let here : (i : ℕ) → i < n → componentOf (boardAt s) i ≡ f i = λ i l. getD-table f mostComponents blank n i absent l in
+    record {
+      first = value-lt s 16 64;
+      last = value-lt s 80 64;
+      uuid = λ i l. rw (here i l) (length-firsts _ uuidBytes, firsts-bytes uuidBytes _ (λ j. value-lt s (startOf i + 8 * j) 8));
+      svn = λ i l. rw (here i l) (value-lt s (startOf i + 8 * uuidBytes + 8) 32);
+    }
+
+pub read-writable : (s : List ℕ) (b : Board) → readOf s ≡ accepted b → Described b × (writableOf b ≡ Accepted)
+unfolding writableOf
+read-writable s b e =
+    let i = read-inv s b e in
+    rw (← i .says) (read-described s, rw (counts (boardAt s) (read-counted s)) (i .judged))

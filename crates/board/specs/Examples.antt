@@ -1,0 +1,81 @@
+-- Document 01's bench examples of the board (marked P), and each refusal of a reader and a writer once: one claim over one
+-- list. Assumes nothing.
+use Prim.Native.Nat.{ℕ, _+_}
+use mathlib.Core.Path.{_≡_, refl}
+use mathlib.Core.Bool.{Bool, true, false}
+use mathlib.Core.List.{List, [], _∷_, _++_}
+use lib.Dec.{eqb}
+use lib.ListN.{length, getD, take, set, replicate}
+use Rattle.basics.specs.Every.{allBelow, allHold}
+use Rattle.basics.specs.Places.{firsts, inTurn}
+use Rattle.bitfield.specs.Bits.{bitAt, valueAt, bytes}
+use Rattle.bitfield.specs.Layout.{join}
+use Rattle.board.specs.Description.{mostComponents, blank, withinLimit, judgedOf, numberOf}
+use Rattle.board.specs.Packed.{componentAt, boardAt, reservedClear, shapeOf, readOf, headBytes, componentBytes, bytesOf, writableOf, putOf}
+use Rattle.board.specs.declared.Component.{Component}
+use Rattle.board.specs.declared.Board.{Board}
+use Rattle.board.specs.declared.Verdict.{Verdict}
+use Rattle.board.specs.declared.Verdict.the-variants.{Accepted, Refused}
+use Rattle.board.specs.declared.Written.{Written}
+use Rattle.board.specs.declared.Written.the-variants.{Bytes, Nothing}
+
+-- a component whose UUID bytes are k, k + 1, ..
+abbrev part : ℕ → Bool → Bool → Component
+part k reset optional = record { uuid = firsts 16 (λ j. k + j); capable = true; «may_reset» = reset; optional = optional; svn = 5 }
+
+abbrev board : ℕ → ℕ → ℕ → List Component → Board
+board n cpus last cs = record { components = n; cpus = cpus; first = 0x1000; last = last; component = cs ++ replicate 30 blank }
+
+abbrev two : Board
+two = board 2 4 0x1FFF (part 0 true false ∷ part 16 false true ∷ [])
+
+-- 0 for an accepted description, else the number of its refusal
+abbrev refusal : Verdict → ℕ
+refusal Accepted = 0
+refusal (Refused x) = numberOf x
+
+abbrev reading : List ℕ → ℕ
+reading s = refusal (readOf s .verdict)
+
+abbrev writing : ℕ → Board → ℕ
+writing room b = by (putOf room b)
+  where
+    by : Written → ℕ
+    by (Bytes n) = n
+    by (Nothing x) = numberOf x
+
+abbrev is : ℕ → ℕ → Bool
+is a b = eqb a b
+
+unfoldable pub examples : List Bool
+unfolding allBelow firsts inTurn bitAt valueAt bytes join withinLimit judgedOf componentAt boardAt reservedClear shapeOf readOf headBytes componentBytes bytesOf writableOf putOf
+examples =
+    -- P 2 components, 4 CPUs: board opens 08 60, length 60
+    is (getD (bytesOf two) 0 0) 0x08
+    ∷ is (getD (bytesOf two) 1 0) 0x60
+    ∷ is (length (bytesOf two)) 60
+    ∷ is (reading (bytesOf two)) 0
+    ∷ is (readOf (bytesOf two) .board .cpus) 4
+    ∷ is (reading []) 20
+    ∷ is (reading (8 ∷ [])) 20
+    ∷ is (reading (take 59 (bytesOf two))) 20
+    ∷ is (reading (bytesOf two ++ 0 ∷ [])) 21
+    ∷ is (reading (set (bytesOf two) 1 0x61)) 22
+    ∷ is (reading (set (bytesOf two) 55 0x30)) 22
+    ∷ is (reading (bytesOf (board 2 4 0xFFF (part 0 true false ∷ part 16 false true ∷ [])))) 23
+    ∷ is (reading (bytesOf (board 2 4 0x1FFF (part 0 true false ∷ part 16 true true ∷ [])))) 24
+    ∷ is (reading (bytesOf (board 2 4 0x1FFF (part 0 true false ∷ part 0 false true ∷ [])))) 25
+    ∷ is (writing 60 two) 60
+    ∷ is (writing 59 two) 27
+    ∷ is (writing 60 (board 0 4 0xFFF [])) 26
+    ∷ is (writing 60 (board 2 65 0xFFF (part 0 true true ∷ part 0 true true ∷ []))) 26
+    ∷ is (writing 59 (board 2 4 0xFFF (part 0 true true ∷ part 0 true true ∷ []))) 23
+    ∷ is (writing 59 (board 2 4 0x1FFF (part 0 true true ∷ part 0 true true ∷ []))) 24
+    ∷ is (writing 59 (board 2 4 0x1FFF (part 0 true false ∷ part 0 true false ∷ []))) 25
+    -- a flaw past the count is no flaw
+    ∷ is (writing 39 (board 1 4 0x1FFF (part 0 true false ∷ part 0 true true ∷ []))) 39
+    ∷ []
+
+pub examples-hold : allHold examples ≡ true
+unfolding allHold examples
+examples-hold = refl
