@@ -1,10 +1,10 @@
 -- A list by its places: f 0, f 1, .. up to a count, and the laws of a loop that fills one. Assumes nothing.
 use Prim.Native.Nat.{ℕ, zero, suc, _+_, _-_, _*_, _<_, _≤_}
-use mathlib.Core.Path.{_≡_, refl, sym, ap, ap₂, _∙_}
+use mathlib.Core.Path.{_≡_, refl, sym, ap, _∙_}
 use mathlib.Core.List.{List, [], _∷_, _++_, append-assoc, append-nil}
 use native.Mathlib.Omega.{arith}
 use native.Mathlib.Numerals.{add-one}
-use native.Mathlib.Nat.{mul-suc, add-assoc}
+use native.Mathlib.Nat.{mul-suc}
 use lib.ListN.{length, getD, take, drop, set, replicate, length-append, length-drop, List·getD-append}
 use lib.Seq.{set-at, getD-at, take-suc, getD-drop, take-add, drop-drop}
 use Rattle.basics.specs.Order.{last-cases}

@@ -1,11 +1,10 @@
 -- Reading what was written, and writing what was read, once for every layout. Assumes nothing.
 use Prim.Native.Nat.{ℕ, zero, suc, _+_, _-_, _*_, _/_, _%_, _^_, _≤_, _<_}
 use mathlib.Core.Path.{_≡_, refl, sym, ap, _∙_}
-use mathlib.Core.List.{List, [], _∷_, _++_, append-assoc}
-use native.Mathlib.Nat.{pow-suc, pow-zero, add-suc, add-zero, mul-assoc, add-assoc, div-div-eq-div-mul, mod-eq-of-lt, mul-suc, mul-le-mul-left, add-comm, add-mul-div-right, zero-add, suc-add, add-mul}
+use mathlib.Core.List.{List, [], _∷_, _++_}
+use native.Mathlib.Nat.{add-zero, mul-assoc, add-assoc, div-div-eq-div-mul, mod-eq-of-lt, mul-suc, mul-le-mul-left, add-comm, add-mul-div-right, zero-add, suc-add, add-mul}
 use native.Mathlib.Omega.{arith}
-use native.Mathlib.Numerals.{add-one}
-use lib.ListN.{length, getD, take, drop, List·getD-append, take-append-drop}
+use lib.ListN.{length, take, drop, List·getD-append, take-append-drop}
 use lib.Seq.{getD-drop, drop-append-seam, length-take-le}
 use lib.Pow.{pow-add, mod-pow-add, high, low, pow-pos}
 use lib.Arith.{digits-lt}

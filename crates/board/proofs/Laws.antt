@@ -1,6 +1,6 @@
 -- The cases of reading and of writing, each as a law that a proof cites. Assumes nothing.
-use Prim.Native.Nat.{ℕ, _+_, _-_, _*_, _^_, _<_, _≤_}
-use mathlib.Core.Path.{_≡_, refl, sym, _∙_, ap}
+use Prim.Native.Nat.{ℕ, _+_, _-_, _*_, _<_, _≤_}
+use mathlib.Core.Path.{_≡_, refl}
 use mathlib.Core.Bool.{Bool, true, false}
 use mathlib.Core.List.{List, [], _∷_, _++_, append-assoc}
 use native.Mathlib.Omega.{arith}
@@ -14,7 +14,7 @@ use Rattle.bitfield.specs.Layout.{join, Fit}
 use Rattle.bitfield.proofs.Laws.{value-lt, length-bytes, put-put, take-put}
 use Rattle.bitfield.proofs.Round.{join-one, bytes-join}
 use Rattle.board.specs.Description.{mostComponents, mostCpus, blankBoard, withinLimit, countsOf, Counted, judgedOf}
-use Rattle.board.specs.Packed.{lengthOf, componentsIn, boardAt, reservedClear, shapeOf, settle, accepted, readOf, digitOf, flagsNumber, headWidths, headValues, tailWidths, tailValues, headLength, tailLength, headBytes, componentBytes, componentLength, bytesAt, bytesOf, writableOf, lengthIn, putBy, putOf, bufferBy, bufferOf, partBy, partOf}
+use Rattle.board.specs.Packed.{lengthOf, componentsIn, boardAt, reservedClear, shapeOf, settle, accepted, readOf, digitOf, flagsNumber, headWidths, headValues, tailWidths, tailValues, headLength, headBytes, componentBytes, componentLength, bytesAt, bytesOf, writableOf, lengthIn, putBy, putOf, bufferBy, bufferOf, partBy, partOf}
 use Rattle.board.specs.declared.Component.{Component}
 use Rattle.board.specs.declared.Board.{Board}
 use Rattle.board.specs.declared.Refusal.{Refusal}

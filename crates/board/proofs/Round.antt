@@ -1,17 +1,17 @@
 -- A description that was written reads back, and bytes that read are those that writing gives. Assumes nothing.
-use Prim.Native.Nat.{ℕ, _+_, _-_, _*_, _^_, _<_, _≤_}
+use Prim.Native.Nat.{ℕ, _+_, _-_, _*_, _<_, _≤_}
 use mathlib.Core.Path.{_≡_, refl, sym, ap, ap₂, _∙_}
 use mathlib.Core.Bool.{Bool, true, false, not, _&&_}
-use mathlib.Core.List.{List, [], _∷_, _++_, append-nil}
+use mathlib.Core.List.{List, [], _++_, append-nil}
 use native.Mathlib.Omega.{arith}
-use native.Mathlib.Nat.{add-zero, add-assoc}
-use lib.Dec.{eqb, leb, ltb}
+use native.Mathlib.Nat.{add-assoc}
+use lib.Dec.{eqb}
 use lib.ListN.{length, getD, take, drop, length-append, length-drop, take-append-drop}
-use lib.Seq.{take-all, length-take-le, take-add, drop-drop, getD-drop}
-use borrow.Author.Tests.{eqb-true, eqb-false, eq-eqb, ne-eqb, le-ltb, lt-ltb}
+use lib.Seq.{take-all, take-add, drop-drop, getD-drop}
+use borrow.Author.Tests.{eqb-true, eqb-false, eq-eqb, le-ltb}
 use Rattle.basics.specs.Choice.{pick, yes, no, and-left, and-right}
 use Rattle.basics.specs.Every.{allBelow, all-of, all-at, all-same}
-use Rattle.basics.specs.Places.{firsts, table, inTurn, length-inTurn, inTurn-same, inTurn-parts, firsts-same, firsts-part, getD-table, length-firsts}
+use Rattle.basics.specs.Places.{firsts, inTurn, length-inTurn, inTurn-same, inTurn-parts, firsts-same, firsts-part, getD-table, length-firsts}
 use Rattle.bitfield.specs.Bits.{AreBytes, valueAt, bytes}
 use Rattle.bitfield.specs.Layout.{fields, fieldOf, join, Fit}
 use Rattle.bitfield.proofs.Laws.{length-bytes, value-lt, value-byte, firsts-bytes}

@@ -10,7 +10,7 @@ use Rattle.basics.specs.Every.{allBelow, allHold}
 use Rattle.basics.specs.Places.{firsts, inTurn}
 use Rattle.bitfield.specs.Bits.{bitAt, valueAt, bytes}
 use Rattle.bitfield.specs.Layout.{join}
-use Rattle.board.specs.Description.{mostComponents, blank, withinLimit, judgedOf, numberOf}
+use Rattle.board.specs.Description.{blank, withinLimit, judgedOf, numberOf}
 use Rattle.board.specs.Packed.{componentAt, boardAt, reservedClear, shapeOf, readOf, headBytes, componentBytes, bytesOf, writableOf, putOf}
 use Rattle.board.specs.declared.Component.{Component}
 use Rattle.board.specs.declared.Board.{Board}

@@ -1,35 +1,26 @@
 use native.Mathlib.Omega.{arith}
 use mathlib.Core.Path.{_≡_}
-use Prim.Native.Nat.{ℕ, _+_, _*_, _/_, _%_}
+use Prim.Native.Nat.{_+_, _*_, _/_, _%_}
 use Rattle.bitfield.specs.Bits.{bitAt}
 use borrow.Author.Needs.{needs}
 use Rattle.bitfield.proofs.bit.Statement.{statement}
 use Rattle.bitfield.proofs.bit.Tie as tie
-use Rattle.bitfield.proofs.bit.Reads as reads
-use Rattle.bitfield.proofs.bit.Lts as lts
-use Rattle.bitfield.proofs.wide.Reads as wide-reads
 
--- src/lib.rt:23:13
 add-wide : tie.Need-add-wide
 add-wide c = search needs
 
--- src/lib.rt:23:11
 shared-slice-read-wide : tie.Need-shared-slice-read-wide
 shared-slice-read-wide c = search needs
 
--- src/lib.rt:23:6
 wide-requires : tie.Need-wide-requires
 wide-requires c κs = search needs
 
--- src/lib.rt:23:31
 sub-result : tie.Need-sub-result
 sub-result c = search needs
 
--- src/lib.rt:23:6
 shr-result : tie.Need-shr-result
 shr-result c = search needs
 
--- src/lib.rt:19:1
 returns : tie.Need-returns
 unfolding bitAt
 returns c =

@@ -1,18 +1,15 @@
 use Rattle.bitfield.proofs.Laws.{put-paste}
-use Rattle.bitfield.specs.Bits.{put}
 use borrow.Author.Needs.{needs}
 use native.Mathlib.Omega.{arith}
-use mathlib.Core.Path.{_≡_, _∙_, ap, refl, sym}
-use Prim.Native.Nat.{ℕ, _+_, _*_, _-_, _/_, _%_, _^_, _≤_, _<_}
-use lib.ListN.{length, getD, length-set}
+use mathlib.Core.Path.{_≡_, refl}
+use Prim.Native.Nat.{_-_, _≤_}
+use lib.ListN.{length, length-set}
 use lib.Seq.{paste, paste-zero, paste-suc}
 use native.Mathlib.Numerals.{add-one}
 use Rattle.bitfield.specs.Bits.{bytes}
 use Rattle.bitfield.proofs.Laws.{length-bytes, getD-bytes}
 use Rattle.bitfield.proofs.put_bytes.Statement.{statement}
 use Rattle.bitfield.proofs.put_bytes.Tie as tie
-use Rattle.bitfield.proofs.put_bytes.Reads as reads
-use Rattle.bitfield.proofs.put_bytes.Lts as lts
 
 abbrev Inv-loop : tie.InvT-loop
 Inv-loop s₀ k n v i₀ s i = (i ≤ n) × ((s ≡ paste s₀ k (bytes n v) i) × (length s ≡ length s₀))

@@ -1,16 +1,13 @@
 use borrow.Author.Needs.{needs}
 use native.Mathlib.Omega.{arith}
-use mathlib.Core.Path.{_≡_, _∙_, ap, sym, refl}
-use Prim.Native.Nat.{ℕ, _+_, _*_, _-_, _/_, _%_, _^_, _≤_, _<_}
+use mathlib.Core.Path.{_≡_, ap}
+use Prim.Native.Nat.{_+_, _*_, _-_, _/_, _%_, _≤_, _<_}
 use lib.ListN.{length}
 use borrow.Author.Tests.{le-leb, lt-leb}
 use Rattle.bitfield.specs.Bits.{bitAt, valueAt}
-use Rattle.bitfield.proofs.Laws.{value-more, value-fits, bit-lt}
+use Rattle.bitfield.proofs.Laws.{value-more, value-fits}
 use Rattle.bitfield.proofs.read.Statement.{statement}
 use Rattle.bitfield.proofs.read.Tie as tie
-use Rattle.bitfield.proofs.read.Reads as reads
-use Rattle.bitfield.proofs.read.Lts as lts
-use Rattle.bitfield.proofs.bit.Reads as bit-reads
 
 abbrev Inv-loop : tie.InvT-loop
 Inv-loop s at width v₀ i₀ v i = (i ≤ width) × (v ≡ valueAt s at i)

@@ -3,27 +3,19 @@ use Rattle.bitfield.specs.Bits.{valueIn}
 use borrow.Author.Needs.{needs}
 use Rattle.bitfield.proofs.value.Statement.{statement}
 use Rattle.bitfield.proofs.value.Tie as tie
-use Rattle.bitfield.proofs.value.Reads as reads
-use Rattle.bitfield.proofs.value.Lts as lts
-use Rattle.bitfield.proofs.read.Reads as read-reads
 
--- src/lib.rt:54:11
 read-requires : tie.Need-read-requires
 read-requires c κs = search needs
 
--- src/lib.rt:55:22
 enum-known-v : tie.Need-enum-known-v
 enum-known-v c = search needs
 
--- src/lib.rt:56:27
 enum-told : tie.Need-enum-told
 enum-told c = search needs
 
--- src/lib.rt:51:1
 returns : tie.Need-returns
 returns c = ap valueIn (sym (c .before .v .given .1) ∙ c .before .before .before .read .ensures)
 
--- src/lib.rt:51:1
 returns-2 : tie.Need-returns-2
 returns-2 c = ap valueIn (sym (c .enum-told .given .1) ∙ c .before .before .read .ensures)
 

@@ -4,35 +4,25 @@ use borrow.Author.Needs.{needs}
 use Rattle.bitfield.proofs.Laws.{refused, too-wide, past-end, room, written-inside}
 use Rattle.bitfield.proofs.write.Statement.{statement}
 use Rattle.bitfield.proofs.write.Tie as tie
-use Rattle.bitfield.proofs.write.Reads as reads
-use Rattle.bitfield.proofs.write.Lts as lts
-use Rattle.bitfield.proofs.put_bytes.Reads as put-bytes-reads
 
--- src/lib.rt:78:9
 returns : tie.Need-returns
 returns c = refused _ _ _ _ (too-wide _ _ _ (c .if1 .taken))
 
--- src/lib.rt:81:9
 returns-2 : tie.Need-returns-2
 returns-2 c = let a = c .before .before .before .args in refused _ _ _ _ (past-end (a .s .now) (a .k) (a .n) (omega arith))
 
--- src/lib.rt:83:12
 sub-if3 : tie.Need-sub-if3
 sub-if3 c = search needs
 
--- src/lib.rt:84:9
 returns-3 : tie.Need-returns-3
 returns-3 c = let a = c .before .before .before .before .args in refused _ _ _ _ (past-end (a .s .now) (a .k) (a .n) (omega arith))
 
--- src/lib.rt:86:5
 put-bytes-requires : tie.Need-put-bytes-requires
 put-bytes-requires c κs = search needs
 
--- src/lib.rt:73:1
 same-length : tie.Need-same-length
 same-length c = search needs
 
--- src/lib.rt:73:1
 returns-4 : tie.Need-returns-4
 returns-4 c =
     let a = c .before .before .before .before .before .before .before .before .args in

@@ -1,4 +1,3 @@
-use mathlib.Core.Path.{sym}
 use Rattle.basics.specs.Choice.{by}
 use borrow.Author.Needs.{needs}
 use Rattle.board.proofs.has_counts.Statement.{statement}

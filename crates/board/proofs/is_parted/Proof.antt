@@ -1,4 +1,3 @@
-use mathlib.Core.Path.{refl}
 use borrow.Author.Needs.{needs}
 use Rattle.board.proofs.is_parted.Statement.{statement}
 use Rattle.board.proofs.is_parted.Tie as tie

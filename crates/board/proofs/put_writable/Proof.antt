@@ -1,5 +1,4 @@
 use mathlib.Core.Path.{refl}
-use native.Mathlib.Omega.{arith}
 use Rattle.board.proofs.Laws.{no-room, all-written}
 use borrow.Author.Needs.{needs}
 use Rattle.board.proofs.put_writable.Statement.{statement}

@@ -1,4 +1,4 @@
-use mathlib.Core.Path.{sym, _∙_, ap}
+use mathlib.Core.Path.{sym, _∙_}
 use native.Mathlib.Omega.{arith}
 use Rattle.board.specs.Packed.{boardAt}
 use Rattle.board.proofs.Laws.{components-most, shape-accepted, read-shaped, read-unshaped}
