@@ -6,7 +6,7 @@ use native.Mathlib.Nat.{pow-suc, pow-zero, add-suc, add-zero, mul-assoc, add-ass
 use native.Mathlib.Omega.{arith}
 use native.Mathlib.Numerals.{add-one}
 use lib.ListN.{length, getD, take, drop, length-append, take-append-drop, List·getD-eq-default}
-use lib.Seq.{paste, length-take-le, drop-drop, drop-append-add, take-length, take-at, length-paste}
+use lib.Seq.{paste, length-take-le, drop-drop, drop-append-add, take-length, take-at}
 use lib.Pow.{pow-mono}
 use mathlib.Core.Bool.{Bool, true, false}
 use lib.Dec.{leb}
@@ -91,9 +91,6 @@ firsts-bytes n f h i =
 pub put-paste : (d : List ℕ) (k : ℕ) (l : List ℕ) → paste d k l (length l) ≡ put d k l
 unfolding put
 put-paste d k l = rw take-length
-
-pub length-put : (d : List ℕ) (k : ℕ) (l : List ℕ) → k + length l ≤ length d → length (put d k l) ≡ length d
-length-put d k l h = rw (← put-paste) (length-paste d k l (length l) h (omega arith))
 
 put-head : (d : List ℕ) (k j : ℕ) (l : List ℕ) → j ≡ k + length l → j ≤ length d → length (take k d ++ l) ≡ j
 put-head d k j l e h = omega (arith, length-append (take k d) l, length-take-le k d (omega arith))

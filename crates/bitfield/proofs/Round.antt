@@ -195,11 +195,6 @@ join-append (w ∷ ws) [] us xs f = absurd f
 join-append (w ∷ ws) (v ∷ vs) us xs f =
     rw (join-append ws vs us xs (f .1), total-append ws us, pow-add 2 (total ws) (total us), ← mul-assoc, add-mul, add-assoc)
 
--- a word before the rest
-pub bytes-word : (w n : ℕ) (us xs : List ℕ) → 8 * n ≡ total us → Fit us xs → bytes (8 + n) (join (64 ∷ us) (w ∷ xs)) ≡ bytes 8 w ++ bytes n (join us xs)
-unfolding join
-bytes-word w n us xs e f = rw (← e) (bytes-append 8 n w (join us xs) (rw e (join-lt us xs f)))
-
 -- the bytes of two layouts' values, one after the other
 pub bytes-join : (m n : ℕ) (ws vs us xs : List ℕ) → 8 * n ≡ total us → Fit ws vs → Fit us xs → bytes (m + n) (join (ws ++ us) (vs ++ xs)) ≡ bytes m (join ws vs) ++ bytes n (join us xs)
 bytes-join m n ws vs us xs e g f = rw (join-append ws vs us xs g, ← e) (bytes-append m n (join ws vs) (join us xs) (rw e (join-lt us xs f)))

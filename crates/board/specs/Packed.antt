@@ -47,6 +47,7 @@ startOf i = 8 * lengthOf i
 
 -- ---- what bytes say
 
+-- field k of the head: 0 components, 1 CPUs, 2 zero, 3 first, 4 last
 abbrev pub headField : List ℕ → ℕ → ℕ
 headField s k = fieldOf headWidths k 0 s
 
@@ -56,7 +57,7 @@ componentsIn s = headField s 0 + 1
 abbrev pub uuidAt : List ℕ → ℕ → List ℕ
 uuidAt s at = firsts uuidBytes (λ j. valueAt s (at + 8 * j) 8)
 
--- field k of those that follow the UUID of the component that starts at bit `at`
+-- field k of what follows the UUID of the component that starts at bit `at`: 0 capable, 1 may_reset, 2 optional, 3 zero, 4 SVN
 abbrev pub tailField : List ℕ → ℕ → ℕ → ℕ
 tailField s at k = fieldOf tailWidths k (at + 8 * uuidBytes) s
 

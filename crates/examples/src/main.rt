@@ -38,7 +38,7 @@ fn entries() {
 
 fn component(seed: u8) -> Component {
     Component {
-        uuid: [seed; 16],
+        uuid: [seed; board::UUID_BYTES],
         capable: true,
         may_reset: false,
         optional: false,
@@ -48,7 +48,7 @@ fn component(seed: u8) -> Component {
 
 // 2 components, 4 CPUs.
 fn sample() -> Board {
-    let mut all = [component(0); 32];
+    let mut all = [component(0); board::MOST_COMPONENTS];
     all[1] = component(1);
     Board {
         components: 2,

@@ -1,0 +1,78 @@
+use mathlib.Core.Path.{refl}
+use native.Mathlib.Omega.{arith}
+use borrow.Author.Tests.{lt-ltb, le-ltb}
+use Rattle.basics.specs.Choice.{yes, no, by}
+use Rattle.bitfield.proofs.Laws.{value-lt}
+use Rattle.board.specs.Packed.{shapeOf}
+use borrow.Author.Needs.{needs}
+use Rattle.board.proofs.reading.shape.Statement.{statement}
+use Rattle.board.proofs.reading.shape.Tie as tie
+
+returns : tie.Need-returns
+unfolding shapeOf
+returns c = yes _ (lt-ltb _ _ (c .if1 .taken)) refl
+
+components-in-requires : tie.Need-components-in-requires
+components-in-requires c κs = search needs
+
+mul-if2 : tie.Need-mul-if2
+mul-if2 c = omega (arith, value-lt (c .before .before .before .args .s .now) 0 5)
+
+add-if2 : tie.Need-add-if2
+add-if2 c = omega (arith, value-lt (c .before .before .before .args .s .now) 0 5)
+
+returns-2 : tie.Need-returns-2
+unfolding shapeOf
+returns-2 c =
+    no _ (le-ltb _ _ (c .before .before .if1 .left))
+    (yes _ (lt-ltb _ _ (rw (c .before .components-in .ensures) at (c .if2 .taken))) refl)
+
+mul-if3 : tie.Need-mul-if3
+mul-if3 c = search needs
+
+add-if3 : tie.Need-add-if3
+add-if3 c = search needs
+
+returns-3 : tie.Need-returns-3
+unfolding shapeOf
+returns-3 c =
+    let n = c .before .before .components-in .ensures in
+    no _ (le-ltb _ _ (c .before .before .before .if1 .left))
+    (no _ (le-ltb _ _ (rw n at (c .before .if2 .left))) (yes _ (lt-ltb _ _ (rw n at (c .if3 .taken))) refl))
+
+is-reserved-clear-requires : tie.Need-is-reserved-clear-requires
+is-reserved-clear-requires c κs = omega (arith, value-lt (c .before .before .before .before .before .args .s .now) 0 5)
+
+returns-4 : tie.Need-returns-4
+unfolding shapeOf
+returns-4 c =
+    let n = c .before .before .before .before .components-in .ensures in
+    no _ (le-ltb _ _ (c .before .before .before .before .before .if1 .left))
+    (no _ (le-ltb _ _ (rw n at (c .before .before .before .if2 .left)))
+    (no _ (le-ltb _ _ (rw n at (c .before .before .if3 .left)))
+    (yes _ (by (rw n at (c .before .is-reserved-clear .ensures)) (c .if4 .taken)) refl)))
+
+returns-5 : tie.Need-returns-5
+unfolding shapeOf
+returns-5 c =
+    let n = c .before .before .before .before .components-in .ensures in
+    no _ (le-ltb _ _ (c .before .before .before .before .before .if1 .left))
+    (no _ (le-ltb _ _ (rw n at (c .before .before .before .if2 .left)))
+    (no _ (le-ltb _ _ (rw n at (c .before .before .if3 .left)))
+    (no _ (by (rw n at (c .before .is-reserved-clear .ensures)) (c .if4 .left)) refl)))
+
+pub shape-spec : {M : Type 1} → statement M
+shape-spec =
+    tie.close
+    (tie.spec
+    returns
+    components-in-requires
+    mul-if2
+    add-if2
+    returns-2
+    mul-if3
+    add-if3
+    returns-3
+    is-reserved-clear-requires
+    returns-4
+    returns-5)

@@ -1,0 +1,131 @@
+// The rules that a description itself must keep: its counts, its range, its flags and its UUIDs.
+use crate::Board;
+use crate::MOST_COMPONENTS;
+use crate::MOST_CPUS;
+use crate::Refusal;
+use crate::UUID_BYTES;
+use crate::Verdict;
+ghost use mathlib.Core.Path.{_≡_};
+ghost use Prim.Native.Nat.{_+_, _<_, _≤_};
+ghost use Rattle.board.specs.Description.{mostComponents, withinLimit, countsOf, parted, unseen, apart, distinct, sameUuid, judgedOf};
+ghost use Rattle.board.specs.Packed.{writableOf};
+
+fn same_uuid(u: [u8; UUID_BYTES], v: [u8; UUID_BYTES]) -> bool
+    ensures { λ r. ⌜ r ≡ sameUuid u v ⌝ }
+{
+    let mut k: usize = 0;
+    while k < UUID_BYTES {
+        if u[k] != v[k] {
+            return false;
+        }
+        k += 1;
+    }
+    true
+}
+
+// No component before place i has its UUID.
+fn is_unseen(b: Board, i: usize) -> bool
+    requires { ⌜ i < mostComponents ⌝ }
+    ensures { λ r. ⌜ r ≡ unseen (b .component) i ⌝ }
+{
+    let c = b.component[i];
+    let mine = c.uuid;
+    let mut j: usize = 0;
+    while j < i {
+        let d = b.component[j];
+        let other = d.uuid;
+        if same_uuid(other, mine) {
+            return false;
+        }
+        j += 1;
+    }
+    true
+}
+
+fn is_distinct(b: Board) -> bool
+    requires { ⌜ b .components ≤ mostComponents ⌝ }
+    ensures { λ r. ⌜ r ≡ distinct b ⌝ }
+{
+    let n = b.components as usize;
+    let mut i: usize = 0;
+    while i < n {
+        if is_unseen(b, i) {
+            i += 1;
+        } else {
+            return false;
+        }
+    }
+    true
+}
+
+// The component at place i is not both optional and may_reset.
+fn is_parted(b: Board, i: usize) -> bool
+    requires { ⌜ i < mostComponents ⌝ }
+    ensures { λ r. ⌜ r ≡ parted (b .component) i ⌝ }
+{
+    let c = b.component[i];
+    if c.optional { !c.may_reset } else { true }
+}
+
+fn is_apart(b: Board) -> bool
+    requires { ⌜ b .components ≤ mostComponents ⌝ }
+    ensures { λ r. ⌜ r ≡ apart b ⌝ }
+{
+    let n = b.components as usize;
+    let mut i: usize = 0;
+    while i < n {
+        if is_parted(b, i) {
+            i += 1;
+        } else {
+            return false;
+        }
+    }
+    true
+}
+
+pub(crate) fn judged(b: Board) -> Verdict
+    requires { ⌜ b .components ≤ mostComponents ⌝ }
+    ensures { λ r. ⌜ r ≡ judgedOf b ⌝ }
+{
+    if b.first > b.last {
+        return Verdict::Refused(Refusal::FirstAboveLast);
+    }
+    if is_apart(b) {
+        if is_distinct(b) {
+            Verdict::Accepted
+        } else {
+            Verdict::Refused(Refusal::UuidTwice)
+        }
+    } else {
+        Verdict::Refused(Refusal::OptionalMayReset)
+    }
+}
+
+fn within_limit(n: u64, most: u64) -> bool
+    ensures { λ r. ⌜ r ≡ withinLimit n most ⌝ }
+{
+    if n < 1 {
+        return false;
+    }
+    n <= most
+}
+
+fn has_counts(b: Board) -> bool
+    ensures { λ r. ⌜ r ≡ countsOf b ⌝ }
+{
+    if within_limit(b.components, MOST_COMPONENTS as u64) {
+        within_limit(b.cpus, MOST_CPUS)
+    } else {
+        false
+    }
+}
+
+pub(crate) fn writable(b: Board) -> Verdict
+    ensures { λ r. ⌜ r ≡ writableOf b ⌝ }
+{
+    if has_counts(b) {
+        judged(b)
+    } else {
+        Verdict::Refused(Refusal::CountOutside)
+    }
+}
