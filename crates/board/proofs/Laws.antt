@@ -7,13 +7,13 @@ use native.Mathlib.Omega.{arith}
 use lib.Dec.{leb, ltb}
 use lib.ListN.{length, take, length-append}
 use borrow.Author.Tests.{leb-true, le-leb, ltb-false, lt-ltb, le-ltb}
-use Rattle.basics.specs.Choice.{pick, pick-cases, yes, no, and-left, and-right}
+use Rattle.basics.specs.Choice.{pick-cases, yes, no, and-left, and-right}
 use Rattle.basics.specs.Places.{inTurn}
 use Rattle.bitfield.specs.Bits.{bytes, put}
 use Rattle.bitfield.specs.Layout.{join, Fit}
 use Rattle.bitfield.proofs.Laws.{value-lt, length-bytes, put-put, take-put}
 use Rattle.bitfield.proofs.Round.{join-one, bytes-join}
-use Rattle.board.specs.Description.{mostComponents, mostCpus, blankBoard, withinLimit, countsOf, Counted, judgedOf}
+use Rattle.board.specs.Description.{mostComponents, mostCpus, blankBoard, unless, withinLimit, countsOf, Counted, judgedOf}
 use Rattle.board.specs.Packed.{lengthOf, componentsIn, boardAt, reservedClear, shapeOf, settle, accepted, readOf, digitOf, flagsNumber, headWidths, headValues, tailWidths, tailValues, headLength, headBytes, componentBytes, componentLength, bytesAt, bytesOf, writableOf, lengthIn, putBy, putOf, bufferBy, bufferOf, partBy, partOf}
 use Rattle.board.specs.declared.Component.{Component}
 use Rattle.board.specs.declared.Board.{Board}
@@ -36,19 +36,19 @@ pub record Shaped (s : List ℕ) : Type 0 where
 
 pub shape-accepted : (s : List ℕ) → shapeOf s ≡ Accepted → Shaped s
 unfolding shapeOf
-shape-accepted s e = go (ltb (length s) 2) (ltb (length s) m) (ltb m (length s)) (reservedClear s (componentsIn s)) refl refl refl e
+shape-accepted s e = go (leb 2 (length s)) (leb m (length s)) (leb (length s) m) (reservedClear s (componentsIn s)) refl refl refl e
   where
     m : ℕ
     m = lengthOf (componentsIn s)
 
-    go : (a b d r : Bool) → ltb (length s) m ≡ b → ltb m (length s) ≡ d → reservedClear s (componentsIn s) ≡ r → pick a (Refused TooShort) (pick b (Refused TooShort) (pick d (Refused TooLong) (pick r Accepted (Refused ReservedBit)))) ≡ Accepted → Shaped s
-    go true b d r p q w h = let z : _≡_ {A = ℕ} 0 1 = cc in absurd (omega arith)
-    go false true d r p q w h = let z : _≡_ {A = ℕ} 0 1 = cc in absurd (omega arith)
-    go false false true r p q w h = let z : _≡_ {A = ℕ} 0 1 = cc in absurd (omega arith)
-    go false false false false p q w h = let z : _≡_ {A = ℕ} 0 1 = cc in absurd (omega arith)
-    go false false false true p q w h =
-        let x = ltb-false (length s) m p in
-        let y = ltb-false m (length s) q in
+    go : (a b d r : Bool) → leb m (length s) ≡ b → leb (length s) m ≡ d → reservedClear s (componentsIn s) ≡ r → unless a TooShort (unless b TooShort (unless d TooLong (unless r ReservedBit Accepted))) ≡ Accepted → Shaped s
+    go false b d r p q w h = let z : _≡_ {A = ℕ} 0 1 = cc in absurd (omega arith)
+    go true false d r p q w h = let z : _≡_ {A = ℕ} 0 1 = cc in absurd (omega arith)
+    go true true false r p q w h = let z : _≡_ {A = ℕ} 0 1 = cc in absurd (omega arith)
+    go true true true false p q w h = let z : _≡_ {A = ℕ} 0 1 = cc in absurd (omega arith)
+    go true true true true p q w h =
+        let x = leb-true m (length s) p in
+        let y = leb-true (length s) m q in
         record { whole = omega arith; clear = w }
 
 pub read-shaped : (s : List ℕ) (v : Verdict) (b : Board) → shapeOf s ≡ Accepted → b ≡ boardAt s → v ≡ judgedOf b → settle v (accepted b) ≡ readOf s
@@ -81,7 +81,7 @@ pub writable-counted : (b : Board) → writableOf b ≡ Accepted → Counted b
 unfolding writableOf
 writable-counted b e = counted b (go (countsOf b) e)
   where
-    go : (t : Bool) → pick t (judgedOf b) (Refused CountOutside) ≡ Accepted → t ≡ true
+    go : (t : Bool) → unless t CountOutside (judgedOf b) ≡ Accepted → t ≡ true
     go true h = refl
     go false h = let z : _≡_ {A = ℕ} 0 1 = cc in absurd (omega arith)
 

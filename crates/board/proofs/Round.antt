@@ -8,15 +8,15 @@ use native.Mathlib.Nat.{add-assoc}
 use lib.Dec.{eqb}
 use lib.ListN.{length, getD, take, drop, length-append, length-drop, take-append-drop}
 use lib.Seq.{take-all, take-add, drop-drop, getD-drop}
-use borrow.Author.Tests.{eqb-true, eqb-false, eq-eqb, le-ltb}
-use Rattle.basics.specs.Choice.{pick, yes, no, and-left, and-right}
+use borrow.Author.Tests.{eqb-true, eqb-false, eq-eqb, le-leb}
+use Rattle.basics.specs.Choice.{yes, and-left, and-right}
 use Rattle.basics.specs.Every.{allBelow, all-of, all-at, all-same}
 use Rattle.basics.specs.Places.{firsts, inTurn, length-inTurn, inTurn-same, inTurn-parts, firsts-same, firsts-part, getD-table, length-firsts}
 use Rattle.bitfield.specs.Bits.{AreBytes, valueAt, bytes}
 use Rattle.bitfield.specs.Layout.{fields, fieldOf, join, Fit}
 use Rattle.bitfield.proofs.Laws.{length-bytes, value-lt, value-byte, firsts-bytes}
 use Rattle.bitfield.proofs.Round.{value-front, value-after, value-inTurn, fields-are, fields-drop, read-written, written-front}
-use Rattle.board.specs.Description.{mostComponents, uuidBytes, blank, absent, componentOf, countsOf, sameUuid, parted, unseen, unlike, apart, distinct, judgedOf, Counted}
+use Rattle.board.specs.Description.{mostComponents, uuidBytes, blank, absent, componentOf, unless, countsOf, sameUuid, parted, unseen, unlike, apart, distinct, judgedOf, Counted}
 use Rattle.board.specs.Packed.{headWidths, tailWidths, headLength, tailLength, componentLength, lengthOf, startOf, headField, componentsIn, uuidAt, tailField, flagAt, componentAt, boardAt, zeroAt, reservedClear, shapeOf, settle, accepted, readOf, digitOf, headValues, tailValues, headBytes, componentBytes, bytesAt, bytesOf, writableOf, Described, trimmed}
 use Rattle.board.specs.declared.Component.{Component}
 use Rattle.board.specs.declared.Board.{Board}
@@ -141,9 +141,9 @@ module _ (b : Board) (d : Described b) (k : Counted b) where
   shape-back =
       let n = bytes-long in
       let m : lengthOf (componentsIn bs) ≡ length bs = rw count-back (sym n) in
-      sym (no _ (le-ltb (length bs) 2 (omega arith))
-      (no _ (le-ltb (length bs) (lengthOf (componentsIn bs)) (omega arith))
-      (no _ (le-ltb (lengthOf (componentsIn bs)) (length bs) (omega arith)) (yes _ reserved-back refl))))
+      sym (yes _ (le-leb 2 (length bs) (omega arith))
+      (yes _ (le-leb (lengthOf (componentsIn bs)) (length bs) (omega arith))
+      (yes _ (le-leb (length bs) (lengthOf (componentsIn bs)) (omega arith)) (yes _ reserved-back refl))))
 
 -- ---- the rules look only within the counts
 
@@ -166,7 +166,7 @@ module _ (b : Board) where
   unfolding writableOf
   writable-judged e = go (countsOf b) e
     where
-      go : (t : Bool) → pick t (judgedOf b) (Refused CountOutside) ≡ Accepted → judgedOf b ≡ Accepted
+      go : (t : Bool) → unless t CountOutside (judgedOf b) ≡ Accepted → judgedOf b ≡ Accepted
       go true h = h
       go false h = let z : _≡_ {A = ℕ} 0 1 = cc in absurd (omega arith)
 

@@ -44,6 +44,10 @@ goodEntry first last entry = eqb (entry % 4) 0 && (leb first entry && leb entry 
 
 -- ---- the refusals that a description itself calls for
 
+-- a refusal where the test fails, else what comes next
+abbrev pub unless : Bool → Refusal → Verdict → Verdict
+unless ok x next = pick ok next (Refused x)
+
 -- 26: a count outside its limits
 unfoldable pub withinLimit : ℕ → ℕ → Bool
 withinLimit n most = leb 1 n && leb n most
@@ -51,20 +55,21 @@ withinLimit n most = leb 1 n && leb n most
 abbrev pub countsOf : Board → Bool
 countsOf b = withinLimit (b .components) mostComponents && withinLimit (b .cpus) mostCpus
 
+-- the same as facts
 pub record Counted (b : Board) : Type 0 where
   pub someComponents : 1 ≤ b .components
   pub fewComponents : b .components ≤ mostComponents
   pub someCpus : 1 ≤ b .cpus
   pub fewCpus : b .cpus ≤ mostCpus
 
--- 24: optional with may_reset
+-- 24: optional with may_reset, at place i and at every place
 abbrev pub parted : List Component → ℕ → Bool
 parted cs i = not (getD cs i absent .optional && getD cs i absent .«may_reset»)
 
 abbrev pub apart : Board → Bool
 apart b = allBelow (b .components) (parted (b .component))
 
--- 25: UUID twice
+-- 25: UUID twice: at no place stands a UUID that a place before it has
 abbrev pub sameAt : List ℕ → List ℕ → ℕ → Bool
 sameAt u v k = eqb (getD u k 0) (getD v k 0)
 
@@ -83,9 +88,10 @@ distinct b = allBelow (b .components) (unseen (b .component))
 -- 23, 24, 25: first > last; optional with may_reset; UUID twice
 unfoldable pub judgedOf : Board → Verdict
 judgedOf b =
-    pick (leb (b .first) (b .last))
-    (pick (apart b) (pick (distinct b) Accepted (Refused UuidTwice)) (Refused OptionalMayReset))
-    (Refused FirstAboveLast)
+    unless (leb (b .first) (b .last)) FirstAboveLast
+    (unless (apart b) OptionalMayReset
+    (unless (distinct b) UuidTwice
+    Accepted))
 
 -- document 01's number of each refusal
 abbrev pub numberOf : Refusal → ℕ

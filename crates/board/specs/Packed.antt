@@ -3,14 +3,14 @@ use Prim.Native.Nat.{ℕ, _+_, _-_, _*_, _^_, _<_}
 use mathlib.Core.Path.{_≡_}
 use mathlib.Core.Bool.{Bool, true, false, _&&_}
 use mathlib.Core.List.{List, [], _∷_, _++_}
-use lib.Dec.{eqb, ltb}
+use lib.Dec.{eqb, leb, ltb}
 use lib.ListN.{length}
 use Rattle.basics.specs.Choice.{pick}
 use Rattle.basics.specs.Every.{allBelow}
 use Rattle.basics.specs.Places.{firsts, table, inTurn}
 use Rattle.bitfield.specs.Bits.{AreBytes, valueAt, bytes, put}
 use Rattle.bitfield.specs.Layout.{fieldOf, join}
-use Rattle.board.specs.Description.{mostComponents, uuidBytes, blank, blankBoard, componentOf, countsOf, judgedOf}
+use Rattle.board.specs.Description.{mostComponents, uuidBytes, blank, blankBoard, componentOf, unless, countsOf, judgedOf}
 use Rattle.board.specs.declared.Component.{Component}
 use Rattle.board.specs.declared.Board.{Board}
 use Rattle.board.specs.declared.Refusal.the-variants.{TooShort, TooLong, ReservedBit, CountOutside, NoRoom}
@@ -88,10 +88,11 @@ reservedClear s n = eqb (headField s 2) 0 && allBelow n (zeroAt s)
 -- 20, 21, 22: too short (under 2 bytes too); too long; reserved bit set
 unfoldable pub shapeOf : List ℕ → Verdict
 shapeOf s =
-    pick (ltb (length s) 2) (Refused TooShort)
-    (pick (ltb (length s) (lengthOf (componentsIn s))) (Refused TooShort)
-    (pick (ltb (lengthOf (componentsIn s)) (length s)) (Refused TooLong)
-    (pick (reservedClear s (componentsIn s)) Accepted (Refused ReservedBit))))
+    unless (leb 2 (length s)) TooShort
+    (unless (leb (lengthOf (componentsIn s)) (length s)) TooShort
+    (unless (leb (length s) (lengthOf (componentsIn s))) TooLong
+    (unless (reservedClear s (componentsIn s)) ReservedBit
+    Accepted)))
 
 -- a refusal comes with nothing else
 abbrev pub settle : Verdict → ReadBoard → ReadBoard
@@ -135,7 +136,7 @@ bytesOf b = headBytes b ++ inTurn (b .components) (bytesAt b)
 
 -- 26, 23, 24, 25
 unfoldable pub writableOf : Board → Verdict
-writableOf b = pick (countsOf b) (judgedOf b) (Refused CountOutside)
+writableOf b = unless (countsOf b) CountOutside (judgedOf b)
 
 -- 27 last
 abbrev pub putBy : Verdict → ℕ → ℕ → Written

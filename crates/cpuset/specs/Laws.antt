@@ -12,9 +12,10 @@ use borrow.Author.Tests.{lt-ltb, le-ltb, eqb-true, eq-eqb, ne-eqb, not-false}
 use Rattle.basics.specs.Choice.{not-both}
 use Rattle.basics.specs.Every.{all-at, all-of}
 use Rattle.basics.specs.Order.{lt-cases}
+use Rattle.basics.specs.Places.{firsts}
 use Rattle.cpuset.specs.Bit.{bit, bit-zero, bit-or, bitLess, bit-less}
 use Rattle.cpuset.specs.Tally.{tally-same, tally-none, tally-zero, tally-more}
-use Rattle.cpuset.specs.Words.{member-tab, member-out, words-tab, words-at, same-words, tally-words, total, onlyIn, bit-only, only-fits, belowIn, bit-below, below-fits}
+use Rattle.cpuset.specs.Words.{member-firsts, member-out, words-firsts, words-at, same-words, tally-words, total, onlyIn, bit-only, only-fits, belowIn, bit-below, below-fits}
 use Rattle.cpuset.specs.Set.{wordCount, words, of, room, word, Set, hasOf, noneOf, onlyOf, unionOf, lessOf, withOf, withoutOf, belowOf, sameOf, withinOf, countOf}
 use Rattle.cpuset.specs.declared.CpuSet.{CpuSet}
 
@@ -28,8 +29,8 @@ has-room s j h = lt-cases j room (λ l. l) (λ l. absurd (not-both h (has-out s 
 
 -- a set that is made word by word
 has-of : (f : ℕ → ℕ) (j : ℕ) → hasOf (of f) j ≡ (ltb j room && bit (f (j / 64)) (j % 64))
-unfolding room hasOf
-has-of f j = member-tab wordCount f j
+unfolding room hasOf firsts
+has-of f j = member-firsts wordCount f j
 
 -- a set that is made of two others' words
 module _ (op : ℕ → ℕ → ℕ) (g : Bool → Bool → Bool) (law : (a b j : ℕ) → bit (op a b) j ≡ g (bit a j) (bit b j))
@@ -74,8 +75,8 @@ has-below n j = rw (has-of (belowIn n) j, bit-below n j)
 
 -- ---- what the functions give are sets again
 set-of : (f : ℕ → ℕ) → ((k : ℕ) → f k < 2 ^ 64) → Set (of f)
-unfolding Set
-set-of f h = words-tab wordCount f h
+unfolding Set firsts
+set-of f h = words-firsts wordCount f h
 
 word-fits : (s : CpuSet) → Set s → (k : ℕ) → word s k < 2 ^ 64
 unfolding Set

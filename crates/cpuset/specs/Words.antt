@@ -5,14 +5,15 @@ use mathlib.Core.Bool.{Bool, true, false, _&&_}
 use mathlib.Core.List.{List, [], _∷_}
 use native.Mathlib.Omega.{arith}
 use native.Mathlib.Nat.{pow-suc, one-mul, min-le-right, lt-of-lt-of-le}
-use lib.Dec.{ltb, eqb, lit<, leb·suc-suc, leb·zero, leb·suc-zero}
+use lib.Dec.{ltb, eqb, lit<}
 use lib.ListN.{length, getD, List·getD-eq-default}
 use lib.Pow.{pow-lt, pow-mono, ones-lt, shl-exact}
 use lib.Seq.{ext-getD}
 use lib.Count.{ones, ones-step}
-use borrow.Author.Tests.{eqb-true, eqb-false, eq-eqb, ne-eqb}
+use borrow.Author.Tests.{lt-ltb, le-ltb, eqb-true, eqb-false, eq-eqb, ne-eqb}
 use Rattle.basics.specs.Choice.{pick, pick-cases}
-use Rattle.basics.specs.Order.{same-ltb}
+use Rattle.basics.specs.Order.{lt-cases, same-ltb}
+use Rattle.basics.specs.Places.{firsts, length-firsts, getD-firsts, firsts-front}
 use Rattle.cpuset.specs.Bit.{bit, bit-first, bit-rest, bit-zero, bit-pow, bit-ones, digit, same-bits}
 use Rattle.cpuset.specs.Tally.{tally, tally-same, tally-first, tally-split}
 
@@ -25,29 +26,25 @@ abbrev pub Words : List ℕ → Type 0
 Words [] = Unit
 Words (w ∷ ws) = (w < 2 ^ 64) × Words ws
 
--- the words f 0 to f (n - 1)
-abbrev pub tab : ℕ → (ℕ → ℕ) → List ℕ
-tab zero f = []
-tab (suc n) f = f 0 ∷ tab n (λ k. f (suc k))
-
 -- ---- sets that are made word by word
-tab-at : (n : ℕ) (f : ℕ → ℕ) (k : ℕ) → getD (tab n f) k 0 ≡ pick (ltb k n) (f k) 0
-tab-at zero f k = rw (leb·suc-zero k)
-tab-at (suc n) f zero = rw (leb·suc-suc, leb·zero)
-tab-at (suc n) f (suc k) = rw leb·suc-suc (tab-at n (λ k. f (suc k)) k)
+word-at : (n : ℕ) (f : ℕ → ℕ) (k : ℕ) → getD (firsts n f) k 0 ≡ pick (ltb k n) (f k) 0
+word-at n f k =
+    lt-cases k n (λ l. rw (lt-ltb k n l) (getD-firsts f n k 0 l))
+    (λ l. rw (le-ltb k n l) (List·getD-eq-default (firsts n f) 0 {n = k} (omega (arith, length-firsts f n))))
 
 bit-pick : (b : Bool) (x j : ℕ) → bit (pick b x 0) j ≡ (b && bit x j)
 bit-pick true x j = refl
 bit-pick false x j = bit-zero j
 
-pub member-tab : (n : ℕ) (f : ℕ → ℕ) (j : ℕ) → member (tab n f) j ≡ (ltb j (n * 64) && bit (f (j / 64)) (j % 64))
-member-tab n f j =
+pub member-firsts : (n : ℕ) (f : ℕ → ℕ) (j : ℕ) → member (firsts n f) j ≡ (ltb j (n * 64) && bit (f (j / 64)) (j % 64))
+member-firsts n f j =
     let b : ltb (j / 64) n ≡ ltb j (n * 64) = same-ltb (j / 64) n j (n * 64) (λ l. omega arith) (λ l. omega arith) in
-    rw (tab-at n f (j / 64), bit-pick (ltb (j / 64) n) (f (j / 64)) (j % 64), b)
+    rw (word-at n f (j / 64), bit-pick (ltb (j / 64) n) (f (j / 64)) (j % 64), b)
 
-pub words-tab : (n : ℕ) (f : ℕ → ℕ) → ((k : ℕ) → f k < 2 ^ 64) → Words (tab n f)
-words-tab zero f h = tt
-words-tab (suc n) f h = (h 0, words-tab n (λ k. f (suc k)) (λ k. h (suc k)))
+pub words-firsts : (n : ℕ) (f : ℕ → ℕ) → ((k : ℕ) → f k < 2 ^ 64) → Words (firsts n f)
+unfolding firsts
+words-firsts zero f h = tt
+words-firsts (suc n) f h = rw firsts-front (h 0, words-firsts n (λ k. f (suc k)) (λ k. h (suc k)))
 
 -- what `1 << i` gives
 pub one-shl : (i : ℕ) → i < 64 → 1 * 2 ^ i % 2 ^ 64 ≡ 2 ^ i

@@ -1,6 +1,6 @@
 use mathlib.Core.Path.{refl}
 use native.Mathlib.Omega.{arith}
-use borrow.Author.Tests.{lt-ltb, le-ltb}
+use borrow.Author.Tests.{le-leb, lt-leb}
 use Rattle.basics.specs.Choice.{yes, no, by}
 use Rattle.bitfield.proofs.Laws.{value-lt}
 use Rattle.board.specs.Packed.{shapeOf}
@@ -10,7 +10,7 @@ use Rattle.board.proofs.reading.shape.Tie as tie
 
 returns : tie.Need-returns
 unfolding shapeOf
-returns c = yes _ (lt-ltb _ _ (c .if1 .taken)) refl
+returns c = no _ (lt-leb _ _ (c .if1 .taken)) refl
 
 components-in-requires : tie.Need-components-in-requires
 components-in-requires c κs = search needs
@@ -24,8 +24,8 @@ add-if2 c = omega (arith, value-lt (c .before .before .before .args .s .now) 0 5
 returns-2 : tie.Need-returns-2
 unfolding shapeOf
 returns-2 c =
-    no _ (le-ltb _ _ (c .before .before .if1 .left))
-    (yes _ (lt-ltb _ _ (rw (c .before .components-in .ensures) at (c .if2 .taken))) refl)
+    yes _ (le-leb _ _ (c .before .before .if1 .left))
+    (no _ (lt-leb _ _ (rw (c .before .components-in .ensures) at (c .if2 .taken))) refl)
 
 mul-if3 : tie.Need-mul-if3
 mul-if3 c = search needs
@@ -37,8 +37,8 @@ returns-3 : tie.Need-returns-3
 unfolding shapeOf
 returns-3 c =
     let n = c .before .before .components-in .ensures in
-    no _ (le-ltb _ _ (c .before .before .before .if1 .left))
-    (no _ (le-ltb _ _ (rw n at (c .before .if2 .left))) (yes _ (lt-ltb _ _ (rw n at (c .if3 .taken))) refl))
+    yes _ (le-leb _ _ (c .before .before .before .if1 .left))
+    (yes _ (le-leb _ _ (rw n at (c .before .if2 .left))) (no _ (lt-leb _ _ (rw n at (c .if3 .taken))) refl))
 
 is-reserved-clear-requires : tie.Need-is-reserved-clear-requires
 is-reserved-clear-requires c κs = omega (arith, value-lt (c .before .before .before .before .before .args .s .now) 0 5)
@@ -47,18 +47,18 @@ returns-4 : tie.Need-returns-4
 unfolding shapeOf
 returns-4 c =
     let n = c .before .before .before .before .components-in .ensures in
-    no _ (le-ltb _ _ (c .before .before .before .before .before .if1 .left))
-    (no _ (le-ltb _ _ (rw n at (c .before .before .before .if2 .left)))
-    (no _ (le-ltb _ _ (rw n at (c .before .before .if3 .left)))
+    yes _ (le-leb _ _ (c .before .before .before .before .before .if1 .left))
+    (yes _ (le-leb _ _ (rw n at (c .before .before .before .if2 .left)))
+    (yes _ (le-leb _ _ (rw n at (c .before .before .if3 .left)))
     (yes _ (by (rw n at (c .before .is-reserved-clear .ensures)) (c .if4 .taken)) refl)))
 
 returns-5 : tie.Need-returns-5
 unfolding shapeOf
 returns-5 c =
     let n = c .before .before .before .before .components-in .ensures in
-    no _ (le-ltb _ _ (c .before .before .before .before .before .if1 .left))
-    (no _ (le-ltb _ _ (rw n at (c .before .before .before .if2 .left)))
-    (no _ (le-ltb _ _ (rw n at (c .before .before .if3 .left)))
+    yes _ (le-leb _ _ (c .before .before .before .before .before .if1 .left))
+    (yes _ (le-leb _ _ (rw n at (c .before .before .before .if2 .left)))
+    (yes _ (le-leb _ _ (rw n at (c .before .before .if3 .left)))
     (no _ (by (rw n at (c .before .is-reserved-clear .ensures)) (c .if4 .left)) refl)))
 
 pub shape-spec : {M : Type 1} → statement M
