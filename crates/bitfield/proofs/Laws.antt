@@ -5,8 +5,8 @@ use mathlib.Core.List.{List, _++_, append-assoc, append-nil}
 use native.Mathlib.Nat.{pow-suc, pow-zero, add-suc, add-zero, mul-assoc, add-assoc, mul-suc, div-div-eq-div-mul}
 use native.Mathlib.Omega.{arith}
 use native.Mathlib.Numerals.{add-one}
-use lib.ListN.{length, getD, take, drop, length-append, take-append-drop, List·getD-eq-default}
-use lib.Seq.{paste, length-take-le, drop-drop, drop-append-add, take-length, take-at}
+use lib.ListN.{length, getD, take, drop, length-append, take-append-drop, List·getD-append, List·getD-eq-default}
+use lib.Seq.{getD-append-add, paste, length-take-le, drop-drop, drop-append-add, take-length, take-at}
 use lib.Pow.{pow-mono}
 use mathlib.Core.Bool.{Bool, true, false}
 use lib.Dec.{leb}
@@ -98,6 +98,19 @@ put-head d k j l e h = omega (arith, length-append (take k d) l, length-take-le 
 pub take-put : (d : List ℕ) (k j : ℕ) (l : List ℕ) → j ≡ k + length l → j ≤ length d → take j (put d k l) ≡ take k d ++ l
 unfolding put
 take-put d k j l e h = take-at (take k d ++ l) (drop (k + length l) d) j (put-head d k j l e h)
+
+-- what was written among bytes is bytes
+pub put-bytes : (d : List ℕ) (k : ℕ) (l : List ℕ) → k + length l ≤ length d → AreBytes (put d k l) → AreBytes l
+unfolding put
+put-bytes d k l h b i =
+    lt-cases i (length l)
+    (λ m.
+    let n = length-take-le k d (omega arith) in
+    let e : getD (take k d ++ l ++ drop (k + length l) d) (length (take k d) + i) 0 ≡ getD l i 0 =
+    List·getD-append (take k d ++ l) (drop (k + length l) d) 0 (length (take k d) + i) (omega (arith, length-append (take k d) l))
+    ∙ getD-append-add (take k d) l i 0 in
+    rw e at (b (length (take k d) + i)))
+    (λ m. rw (List·getD-eq-default l 0 {n = i} m) (omega arith))
 
 -- what stands past a write is as it was
 pub drop-put : (d : List ℕ) (k j n : ℕ) (l : List ℕ) → j ≡ k + length l → j ≤ length d → drop (j + n) (put d k l) ≡ drop (j + n) d

@@ -8,13 +8,13 @@ use lib.Dec.{leb, ltb}
 use lib.ListN.{length, take, length-append}
 use borrow.Author.Tests.{leb-true, le-leb, ltb-false, lt-ltb, le-ltb}
 use Rattle.basics.specs.Choice.{pick-cases, yes, no, and-left, and-right}
-use Rattle.basics.specs.Places.{inTurn}
+use Rattle.basics.specs.Places.{inTurn, length-inTurn}
 use Rattle.bitfield.specs.Bits.{bytes, put}
 use Rattle.bitfield.specs.Layout.{join, Fit}
 use Rattle.bitfield.proofs.Laws.{value-lt, length-bytes, put-put, take-put}
 use Rattle.bitfield.proofs.Round.{join-one, bytes-join}
-use Rattle.board.specs.Description.{mostComponents, mostCpus, blankBoard, unless, withinLimit, countsOf, Counted, judgedOf}
-use Rattle.board.specs.Packed.{lengthOf, componentsIn, boardAt, reservedClear, shapeOf, settle, accepted, readOf, digitOf, flagsNumber, headWidths, headValues, tailWidths, tailValues, headLength, headBytes, componentBytes, componentLength, bytesAt, bytesOf, writableOf, lengthIn, putBy, putOf, bufferBy, bufferOf, partBy, partOf}
+use Rattle.board.specs.Description.{mostComponents, mostCpus, blankBoard, componentOf, unless, withinLimit, countsOf, Counted, judgedOf}
+use Rattle.board.specs.Packed.{lengthOf, componentsIn, boardAt, reservedClear, shapeOf, settle, accepted, readOf, digitOf, flagsNumber, headWidths, headValues, tailWidths, tailValues, headLength, tailLength, headBytes, componentBytes, componentLength, bytesAt, bytesOf, writableOf, lengthIn, putBy, putOf, bufferBy, bufferOf, partBy, partOf, Typed, EachTyped}
 use Rattle.board.specs.declared.Component.{Component}
 use Rattle.board.specs.declared.Board.{Board}
 use Rattle.board.specs.declared.Refusal.{Refusal}
@@ -126,11 +126,17 @@ component-bytes c f =
     )
     (simp append-assoc)
 
+pub typed-long : (c : Component) → Typed c → length (componentBytes c) ≡ componentLength
+unfolding componentBytes
+typed-long c t =
+    let tail = bytes tailLength (join tailWidths (tailValues c)) in
+    omega (arith, length-append (c .uuid) tail, length-bytes tailLength (join tailWidths (tailValues c)), t .long)
+
 -- the ways that a write ends
 module _ (d : List ℕ) (b : Board) where
-  pub unwritable : (x : Refusal) → writableOf b ≡ Refused x → (Nothing x ≡ putOf (length d) b) × ((d ≡ bufferOf d b) × (0 ≡ length (partOf d b)))
+  pub unwritable : (x : Refusal) → writableOf b ≡ Refused x → (Nothing x ≡ putOf (length d) b) × ((d ≡ bufferOf d b) × ((0 ≡ length (partOf d b)) × Unit {0}))
   unfolding putOf
-  unwritable x e = rw e (refl, (refl, refl))
+  unwritable x e = rw e (refl, (refl, (refl, tt)))
 
   pub by-room : (r : Written) (e : List ℕ) → writableOf b ≡ Accepted → r ≡ putBy Accepted (length d) (lengthOf (b .components)) → e ≡ bufferBy r d b → lengthIn r ≡ length (partBy r b) → (r ≡ putOf (length d) b) × ((e ≡ bufferOf d b) × (lengthIn r ≡ length (partOf d b)))
   unfolding putOf
@@ -139,9 +145,10 @@ module _ (d : List ℕ) (b : Board) where
   pub no-room : length d < lengthOf (b .components) → Nothing NoRoom ≡ putBy Accepted (length d) (lengthOf (b .components))
   no-room h = yes _ (lt-ltb _ _ h) refl
 
-  pub all-written : (h e : List ℕ) → lengthOf (b .components) ≤ length d → h ≡ put d 0 (headBytes b) → e ≡ put h headLength (inTurn (b .components) (bytesAt b)) → length (inTurn (b .components) (bytesAt b)) ≡ componentLength * b .components → (Bytes (lengthOf (b .components)) ≡ putBy Accepted (length d) (lengthOf (b .components))) × ((e ≡ put d 0 (bytesOf b)) × (lengthOf (b .components) ≡ length (bytesOf b)))
+  pub all-written : (h e : List ℕ) → lengthOf (b .components) ≤ length d → h ≡ put d 0 (headBytes b) → e ≡ put h headLength (inTurn (b .components) (bytesAt b)) → EachTyped b (b .components) → (Bytes (lengthOf (b .components)) ≡ putBy Accepted (length d) (lengthOf (b .components))) × ((e ≡ put d 0 (bytesOf b)) × (lengthOf (b .components) ≡ length (bytesOf b)))
   unfolding bytesOf headBytes
-  all-written h e g p q l =
+  all-written h e g p q t =
+      let l = length-inTurn (bytesAt b) componentLength (b .components) (λ i k. typed-long (componentOf b i) (t i k)) in
       let n = length-bytes headLength (join headWidths (headValues b)) in
       let m = length-append (headBytes b) (inTurn (b .components) (bytesAt b)) in (
         no _ (le-ltb _ _ g) refl,

@@ -19,7 +19,7 @@ pub good-entry-pinned : OneOutcome 0 good-entry-kinds.ps good-entry-kinds.r good
 good-entry-pinned κs a z z′ ws ws′ p q = just p q
 
 pub read-board-pinned : OneOutcome 1 read-board-kinds.ps read-board-kinds.r read-board-reads.Post
-read-board-pinned κs a z z′ ws ws′ p q = just p q
+read-board-pinned κs a z z′ ws ws′ p q = just (p .0) (q .0)
 
 pub put-board-pinned : OneOutcome 1 put-board-kinds.ps put-board-kinds.r put-board-reads.Post
 put-board-pinned κs a z z′ ws ws′ p q = (same (p .0) (q .0), λ i. (same (p .1 .0) (q .1 .0) i, (tt, tt)))

@@ -17,14 +17,16 @@ use Rattle.bitfield.specs.Layout.{fields, fieldOf, join, Fit}
 use Rattle.bitfield.proofs.Laws.{length-bytes, value-lt, value-byte, firsts-bytes}
 use Rattle.bitfield.proofs.Round.{value-front, value-after, value-inTurn, fields-are, fields-drop, read-written, written-front}
 use Rattle.board.specs.Description.{mostComponents, uuidBytes, blank, absent, componentOf, unless, countsOf, sameUuid, parted, unseen, unlike, apart, distinct, judgedOf, Counted}
-use Rattle.board.specs.Packed.{headWidths, tailWidths, headLength, tailLength, componentLength, lengthOf, startOf, headField, componentsIn, uuidAt, tailField, flagAt, componentAt, boardAt, zeroAt, reservedClear, shapeOf, settle, accepted, readOf, digitOf, headValues, tailValues, headBytes, componentBytes, bytesAt, bytesOf, writableOf, Described, trimmed}
+use Rattle.board.specs.Packed.{headWidths, tailWidths, headLength, tailLength, componentLength, lengthOf, startOf, headField, componentsIn, uuidAt, tailField, flagAt, componentAt, boardAt, zeroAt, reservedClear, shapeOf, settle, accepted, readOf, digitOf, headValues, tailValues, headBytes, componentBytes, bytesAt, bytesOf, writableOf, Described, DescribedIf, trimmed, ReadsBack, WritesBackBy, WritesBack}
 use Rattle.board.specs.declared.Component.{Component}
 use Rattle.board.specs.declared.Board.{Board}
 use Rattle.board.specs.declared.ReadBoard.{ReadBoard}
+use Rattle.board.specs.declared.Written.{Written}
+use Rattle.board.specs.declared.Written.the-variants.{Bytes, Nothing}
 use Rattle.board.specs.declared.Refusal.the-variants.{CountOutside}
 use Rattle.board.specs.declared.Verdict.{Verdict}
 use Rattle.board.specs.declared.Verdict.the-variants.{Accepted, Refused}
-use Rattle.board.proofs.Laws.{digit-fits, counts, writable-counted, Shaped, shape-accepted}
+use Rattle.board.proofs.Laws.{digit-fits, counts, writable-counted, typed-long, Shaped, shape-accepted}
 
 flag-digit : (b : Bool) → eqb (digitOf b) 1 ≡ b
 flag-digit true = refl
@@ -44,9 +46,7 @@ module _ (b : Board) (d : Described b) (k : Counted b) where
   bs = bytesOf b
 
   each-long : (i : ℕ) → i < b .components → length (bytesAt b i) ≡ componentLength
-  unfolding componentBytes
-  each-long i l =
-      omega (arith, length-append (componentOf b i .uuid) (bytes tailLength (join tailWidths (tailValues (componentOf b i)))), length-bytes tailLength (join tailWidths (tailValues (componentOf b i))), d .uuid i l .0)
+  each-long i l = typed-long (componentOf b i) (d .each i l)
 
   head-long : length (headBytes b) ≡ headLength
   unfolding headBytes
@@ -89,25 +89,25 @@ module _ (b : Board) (d : Described b) (k : Counted b) where
 
     uuid-back : uuidAt bs (startOf i) ≡ c .uuid
     uuid-back =
-        let u = d .uuid i l in
+        let u = d .each i l in
         firsts-same uuidBytes (λ j. valueAt bs (startOf i + 8 * j) 8) (λ j. getD (c .uuid) (0 + j) 0)
         (λ j h.
         part-value (8 * j) 8 (omega arith)
-        ∙ value-front (c .uuid) tail (8 * j) 8 (omega (arith, u .0))
-        ∙ value-byte (c .uuid) j (u .1 j)
+        ∙ value-front (c .uuid) tail (8 * j) 8 (omega (arith, u .long))
+        ∙ value-byte (c .uuid) j (u .bytes j)
         ∙ ap (λ (n : ℕ). getD (c .uuid) n 0) (omega arith))
-        ∙ firsts-part uuidBytes 0 (c .uuid) 0 (omega (arith, u .0))
-        ∙ take-all uuidBytes (c .uuid) (omega (arith, u .0))
+        ∙ firsts-part uuidBytes 0 (c .uuid) 0 (omega (arith, u .long))
+        ∙ take-all uuidBytes (c .uuid) (omega (arith, u .long))
 
     tail-fields : fields tailWidths 0 tail ≡ tailValues c
     tail-fields =
         ap (fields tailWidths 0) (sym (append-nil tail))
         ∙ read-written tailWidths (tailValues c) tailLength [] refl
-        (digit-fits (c .capable), (digit-fits (c .«may_reset»), (digit-fits (c .optional), (omega arith, (d .svn i l, tt)))))
+        (digit-fits (c .capable), (digit-fits (c .«may_reset»), (digit-fits (c .optional), (omega arith, (d .each i l .svn, tt)))))
 
     tail-value : (o w : ℕ) → o + w ≤ 8 * tailLength → valueAt bs (startOf i + 8 * uuidBytes + o) w ≡ valueAt tail o w
     tail-value o w h =
-        let u = d .uuid i l .0 in
+        let u = d .each i l .long in
         let e : 8 * uuidBytes + o ≡ 8 * length (c .uuid) + o = omega arith in
         ap (λ (p : ℕ). valueAt bs p w) (add-assoc (startOf i) (8 * uuidBytes) o)
         ∙ part-value (8 * uuidBytes + o) w (omega arith)
@@ -176,6 +176,11 @@ module _ (b : Board) where
   reads-back d w =
       let k = writable-counted b w in
       rw (shape-back b d k, board-back b d k, judged-trimmed, writable-judged w)
+
+  -- the same of what a write did
+  pub written-back : (r : Written) → DescribedIf r b → writableOf b ≡ Accepted → ReadsBack r b
+  written-back (Bytes n) d w = reads-back d w
+  written-back (Nothing x) d w = tt
 
 -- ---- what is read: its places
 
@@ -266,6 +271,14 @@ pub writes-back : (s : List ℕ) (b : Board) → AreBytes s → readOf s ≡ acc
 writes-back s b bs e =
     let i = read-inv s b e in rw (← i .says) (bytes-again s bs (shape-accepted s (i .shaped)))
 
+-- the same of what a reading gives
+pub read-back : (s : List ℕ) (r : ReadBoard) → AreBytes s → r ≡ readOf s → WritesBack r s
+read-back s r bs e = go (r .verdict) refl
+  where
+    go : (v : Verdict) → r .verdict ≡ v → WritesBackBy v (r .board) s
+    go (Refused x) h = tt
+    go Accepted h = writes-back s (r .board) bs (sym e ∙ ap (λ (v : Verdict). record { verdict = v; board = r .board }) h)
+
 -- so each readable description has a single byte form
 pub single-form : (s t : List ℕ) (b : Board) → AreBytes s → AreBytes t → readOf s ≡ accepted b → readOf t ≡ accepted b → s ≡ t
 single-form s t b p q e f = sym (writes-back s b p e) ∙ writes-back t b q f
@@ -291,8 +304,11 @@ read-described s =
     record {
       first = value-lt s 16 64;
       last = value-lt s 80 64;
-      uuid = λ i l. rw (here i l) (length-firsts _ uuidBytes, firsts-bytes uuidBytes _ (λ j. value-lt s (startOf i + 8 * j) 8));
-      svn = λ i l. rw (here i l) (value-lt s (startOf i + 8 * uuidBytes + 8) 32);
+      each = λ i l. rw (here i l) (record {
+        long = length-firsts _ uuidBytes;
+        bytes = firsts-bytes uuidBytes _ (λ j. value-lt s (startOf i + 8 * j) 8);
+        svn = value-lt s (startOf i + 8 * uuidBytes + 8) 32;
+      });
     }
 
 pub read-writable : (s : List ℕ) (b : Board) → readOf s ≡ accepted b → Described b × (writableOf b ≡ Accepted)

@@ -168,14 +168,39 @@ partOf d b = partBy (putOf (length d) b) b
 
 -- ---- what reads back
 
--- what the types of a board's fields say of their values
+-- what the types of a component's fields say of their values
+pub record Typed (c : Component) : Type 0 where
+  pub long : length (c .uuid) ≡ uuidBytes
+  pub bytes : AreBytes (c .uuid)
+  pub svn : c .svn < 2 ^ 32
+
+abbrev pub EachTyped : Board → ℕ → Type 0
+EachTyped b n = (i : ℕ) → i < n → Typed (componentOf b i)
+
+-- the same of a board, within its count
 pub record Described (b : Board) : Type 0 where
   pub first : b .first < 2 ^ 64
   pub last : b .last < 2 ^ 64
-  pub uuid : (i : ℕ) → i < b .components → (length (componentOf b i .uuid) ≡ uuidBytes) × AreBytes (componentOf b i .uuid)
-  pub svn : (i : ℕ) → i < b .components → componentOf b i .svn < 2 ^ 32
+  pub each : EachTyped b (b .components)
+
+abbrev pub DescribedIf : Written → Board → Type 0
+DescribedIf (Bytes n) b = Described b
+DescribedIf (Nothing x) b = Unit
 
 -- a board with blanks past its count
 abbrev pub trimmed : Board → Board
 trimmed b =
     record { components = b .components; cpus = b .cpus; first = b .first; last = b .last; component = table mostComponents blank (b .components) (componentOf b) }
+
+-- a description that was written reads back as written
+abbrev pub ReadsBack : Written → Board → Type 0
+ReadsBack (Bytes n) b = readOf (bytesOf b) ≡ accepted (trimmed b)
+ReadsBack (Nothing x) b = Unit
+
+-- a description that was read is the one byte form of what it says
+abbrev pub WritesBackBy : Verdict → Board → List ℕ → Type 0
+WritesBackBy Accepted b s = bytesOf b ≡ s
+WritesBackBy (Refused x) b s = Unit
+
+abbrev pub WritesBack : ReadBoard → List ℕ → Type 0
+WritesBack r s = WritesBackBy (r .verdict) (r .board) s

@@ -13,7 +13,7 @@ ghost use Rattle.basics.specs.Places.{inTurn};
 ghost use Rattle.bitfield.specs.Bits.{widestBytes, bytes, put};
 ghost use Rattle.board.specs.Description.{mostComponents, uuidBytes, Counted};
 ghost use Rattle.board.specs.declared.Verdict.the-variants.{Accepted};
-ghost use Rattle.board.specs.Packed.{digitOf, flagsNumber, lengthOf, componentLength, headLength, headBytes, componentBytes, bytesAt, lengthIn, putBy, bufferBy, partBy};
+ghost use Rattle.board.specs.Packed.{digitOf, flagsNumber, lengthOf, componentLength, headLength, headBytes, componentBytes, bytesAt, lengthIn, putBy, bufferBy, partBy, Typed, EachTyped, DescribedIf};
 
 fn digit(b: bool) -> u64
     ensures { λ r. ⌜ r ≡ digitOf b ⌝ }
@@ -50,7 +50,7 @@ fn flags(c: Component) -> u64
 fn put_component(buf: &mut [u8], k: usize, c: Component)
     requires { ⌜ k + componentLength ≤ length (now buf) ⌝ }
     ensures { λ _. ⌜ now (buf .exit) ≡ put (now (buf .entry)) k (componentBytes c) ⌝ }
-    ensures { λ _. ⌜ length (componentBytes c) ≡ componentLength ⌝ }
+    ensures { λ _. ⌜ Typed c ⌝ }
 {
     let uuid = c.uuid;
     put_uuid(buf, k, uuid);
@@ -74,7 +74,7 @@ fn put_components(buf: &mut [u8], b: Board)
     requires { ⌜ b .components ≤ mostComponents ⌝ }
     requires { ⌜ lengthOf (b .components) ≤ length (now buf) ⌝ }
     ensures { λ _. ⌜ now (buf .exit) ≡ put (now (buf .entry)) headLength (inTurn (b .components) (bytesAt b)) ⌝ }
-    ensures { λ _. ⌜ length (inTurn (b .components) (bytesAt b)) ≡ componentLength * b .components ⌝ }
+    ensures { λ _. ⌜ EachTyped b (b .components) ⌝ }
 {
     let n = b.components as usize;
     let mut i: usize = 0;
@@ -91,6 +91,7 @@ pub(crate) fn put_writable(buf: &mut [u8], b: Board) -> Written
     ensures { λ r. ⌜ r ≡ putBy Accepted (length (now (buf .entry))) (lengthOf (b .components)) ⌝ }
     ensures { λ r. ⌜ now (buf .exit) ≡ bufferBy r (now (buf .entry)) b ⌝ }
     ensures { λ r. ⌜ lengthIn r ≡ length (partBy r b) ⌝ }
+    ensures { λ r. ⌜ DescribedIf r b ⌝ }
 {
     let n = HEAD + EACH * (b.components as usize);
     if buf.len() < n {

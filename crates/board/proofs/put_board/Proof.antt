@@ -1,5 +1,6 @@
 use mathlib.Core.Path.{sym, _∙_}
 use Rattle.board.proofs.Laws.{writable-counted, unwritable, by-room}
+use Rattle.board.proofs.Round.{written-back}
 use borrow.Author.Needs.{needs}
 use Rattle.board.proofs.put_board.Statement.{statement}
 use Rattle.board.proofs.put_board.Tie as tie
@@ -24,7 +25,10 @@ returns c =
     let p = c .before .before in
     let w = p .before .before .before .before in
     let a = w .before .before .args in
-    by-room (a .buf .now) (a .b) _ _ (sym (w .writable .ensures) ∙ p .before .before .enum-told .given .1) (p .put-writable .ensures .0) (p .put-writable .ensures .1 .0) (p .put-writable .ensures .1 .1)
+    let e = p .put-writable .ensures in
+    let ok = sym (w .writable .ensures) ∙ p .before .before .enum-told .given .1 in
+    let r = by-room (a .buf .now) (a .b) _ _ ok (e .0) (e .1 .0) (e .1 .1 .0) in
+    (r .0, (r .1 .0, (r .1 .1, written-back (a .b) (p .put-writable .result) (e .1 .1 .1) ok)))
 
 returns-2 : tie.Need-returns-2
 returns-2 c =

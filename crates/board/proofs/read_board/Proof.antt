@@ -1,7 +1,9 @@
 use mathlib.Core.Path.{sym, _∙_}
 use native.Mathlib.Omega.{arith}
+use Rattle.bitfield.specs.Bits.{AreBytes}
 use Rattle.board.specs.Packed.{boardAt}
 use Rattle.board.proofs.Laws.{components-most, shape-accepted, read-shaped, read-unshaped}
+use Rattle.board.proofs.Round.{read-back}
 use borrow.Author.Needs.{needs}
 use Rattle.board.proofs.read_board.Statement.{statement}
 use Rattle.board.proofs.read_board.Tie as tie
@@ -31,11 +33,21 @@ blank-board-requires c κs = search needs
 settled-requires-2 : tie.Need-settled-requires-2
 settled-requires-2 c κs = search needs
 
+-- its type says that the slice holds bytes
+known : (c : tie.After-shared-slice-known) → AreBytes (c .before .args .s .now)
+known c i = omega (arith, c .shared-slice-known .given i)
+
 returns : tie.Need-returns
-returns c = c .settled .ensures ∙ read-shaped _ _ _ (sym (c .before .before .before .before .before .shape .ensures) ∙ c .before .before .before .enum-told .given .1) (c .before .before .board-at .ensures) (c .before .judged .ensures)
+returns c =
+    let p = c .before .before .before .before .before in
+    let e = c .settled .ensures ∙ read-shaped _ _ _ (sym (p .shape .ensures) ∙ c .before .before .before .enum-told .given .1) (c .before .before .board-at .ensures) (c .before .judged .ensures) in
+    (e, read-back _ _ (known (p .before)) e)
 
 returns-2 : tie.Need-returns-2
-returns-2 c = c .settled2 .ensures ∙ read-unshaped _ _ (sym (c .before .before .before .before .before .shape .ensures) ∙ c .before .before .before .x .given .1)
+returns-2 c =
+    let p = c .before .before .before .before .before in
+    let e = c .settled2 .ensures ∙ read-unshaped _ _ (sym (p .shape .ensures) ∙ c .before .before .before .x .given .1) in
+    (e, read-back _ _ (known (p .before)) e)
 
 pub read-board-spec : {M : Type 1} → statement M
 read-board-spec =

@@ -1,9 +1,9 @@
 use mathlib.Core.Path.{_≡_}
 use native.Mathlib.Omega.{arith}
 use Prim.Native.Nat.{_*_}
-use lib.ListN.{length, length-append}
+use lib.ListN.{length}
 use Rattle.bitfield.specs.Layout.{Fit}
-use Rattle.bitfield.proofs.Laws.{length-bytes, put-three}
+use Rattle.bitfield.proofs.Laws.{length-bytes, put-bytes, put-three}
 use Rattle.board.specs.Description.{uuidBytes}
 use Rattle.board.specs.Packed.{tailWidths, tailValues, flagsNumber}
 use Rattle.board.proofs.Laws.{digit-fits, component-bytes}
@@ -48,7 +48,8 @@ returns : tie.Need-returns
 returns c =
     let third = c .before .before in
     let second = third .before .before .before .before .before in
-    let first = second .before .before .before .before .before in
+    let known = second .before .before .before in
+    let first = known .before .before in
     let st = first .before .before .before .before in
     let a = st .args in
     let u : length (a .c .uuid) ≡ uuidBytes = sixteen st in
@@ -56,7 +57,11 @@ returns c =
     let z = length-bytes 4 (a .c .svn) in
     let w = component-bytes (a .c) (fit st) in (
       rw w (put-three _ _ _ _ _ _ _ (a .c .uuid) _ _ (first .put-uuid .ensures) (rw (second .before .flags .ensures) at (second .put-number .ensures)) (third .put-number2 .ensures) (omega arith) (omega arith) (omega arith)),
-      rw w (simp length-append (omega arith)),
+      record {
+        long = u;
+        bytes = put-bytes (a .buf .now) (a .k) (a .c .uuid) (omega arith) (λ i. rw (← first .put-uuid .ensures) (omega (arith, known .slice-known2 .given i)));
+        svn = fit st .1 .1 .1 .1 .0;
+      },
     )
 
 pub put-component-spec : {M : Type 1} → statement M

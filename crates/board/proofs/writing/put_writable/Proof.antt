@@ -11,7 +11,7 @@ add-n : tie.Need-add-n
 add-n c = search needs
 
 returns : tie.Need-returns
-returns c = let a = c .before .before .args in (no-room (a .buf .now) (a .b) (c .if1 .taken), (refl, refl))
+returns c = let a = c .before .before .args in (no-room (a .buf .now) (a .b) (c .if1 .taken), (refl, (refl, tt)))
 
 put-head-requires : tie.Need-put-head-requires
 put-head-requires c κs = search needs
@@ -27,8 +27,9 @@ returns-2 c =
     let p = c .before .before in
     let h = p .before .before .before .before in
     let st = h .before .before .before .before in
-    let w = all-written (st .args .buf .now) (st .args .b) _ _ (h .before .before .if1 .left) (h .put-head .ensures) (p .put-components .ensures .0) (p .put-components .ensures .1) in
-    w
+    let each = p .put-components .ensures .1 in
+    let w = all-written (st .args .buf .now) (st .args .b) _ _ (h .before .before .if1 .left) (h .put-head .ensures) (p .put-components .ensures .0) each in
+    (w .0, (w .1 .0, (w .1 .1, record { first = search needs; last = search needs; each = each })))
 
 pub put-writable-spec : {M : Type 1} → statement M
 put-writable-spec =
