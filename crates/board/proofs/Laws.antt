@@ -13,8 +13,8 @@ use Rattle.bitfield.specs.Bits.{bytes, put}
 use Rattle.bitfield.specs.Layout.{join, Fit}
 use Rattle.bitfield.proofs.Laws.{value-lt, length-bytes, put-put, take-put}
 use Rattle.bitfield.proofs.Round.{join-one, bytes-join}
-use Rattle.board.specs.Description.{mostComponents, mostCpus, blankBoard, componentOf, unless, withinLimit, countsOf, Counted, judgedOf}
-use Rattle.board.specs.Packed.{lengthOf, componentsIn, boardAt, reservedClear, shapeOf, settle, accepted, readOf, digitOf, flagsNumber, headWidths, headValues, tailWidths, tailValues, headLength, tailLength, headBytes, componentBytes, componentLength, bytesAt, bytesOf, writableOf, lengthIn, putBy, putOf, bufferBy, bufferOf, partBy, partOf, Typed, EachTyped}
+use Rattle.board.specs.Description.{mostComponents, mostCpus, componentOf, unless, withinLimit, countsOf, Counted, judgedOf}
+use Rattle.board.specs.Packed.{lengthOf, componentsIn, boardAt, reservedClear, shapeOf, unread, settle, accepted, readOf, digitOf, flagsNumber, headWidths, headValues, tailWidths, tailValues, headLength, tailLength, headBytes, componentBytes, componentLength, bytesAt, bytesOf, writableOf, lengthIn, putBy, putOf, bufferBy, bufferOf, partBy, partOf, Typed, EachTyped}
 use Rattle.board.specs.declared.Component.{Component}
 use Rattle.board.specs.declared.Board.{Board}
 use Rattle.board.specs.declared.Refusal.{Refusal}
@@ -55,7 +55,7 @@ pub read-shaped : (s : List ℕ) (v : Verdict) (b : Board) → shapeOf s ≡ Acc
 unfolding readOf
 read-shaped s v b e p q = rw (e, q, p)
 
-pub read-unshaped : (s : List ℕ) (x : Refusal) → shapeOf s ≡ Refused x → record { verdict = Refused x; board = blankBoard } ≡ readOf s
+pub read-unshaped : (s : List ℕ) (x : Refusal) → shapeOf s ≡ Refused x → unread x ≡ readOf s
 unfolding readOf
 read-unshaped s x e = rw e
 

@@ -13,6 +13,7 @@ use Rattle.bitfield.specs.Layout.{fieldOf, join}
 use Rattle.board.specs.Description.{mostComponents, uuidBytes, blank, blankBoard, componentOf, unless, countsOf, judgedOf}
 use Rattle.board.specs.declared.Component.{Component}
 use Rattle.board.specs.declared.Board.{Board}
+use Rattle.board.specs.declared.Refusal.{Refusal}
 use Rattle.board.specs.declared.Refusal.the-variants.{TooShort, TooLong, ReservedBit, CountOutside, NoRoom}
 use Rattle.board.specs.declared.Verdict.{Verdict}
 use Rattle.board.specs.declared.Verdict.the-variants.{Accepted, Refused}
@@ -94,13 +95,16 @@ shapeOf s =
     (unless (reservedClear s (componentsIn s)) ReservedBit
     Accepted)))
 
--- a refusal comes with nothing else
-abbrev pub settle : Verdict → ReadBoard → ReadBoard
-settle Accepted r = r
-settle (Refused x) r = record { verdict = Refused x; board = blankBoard }
-
 abbrev pub accepted : Board → ReadBoard
 accepted b = record { verdict = Accepted; board = b }
+
+-- a refusal comes with nothing else
+abbrev pub unread : Refusal → ReadBoard
+unread x = record { verdict = Refused x; board = blankBoard }
+
+abbrev pub settle : Verdict → ReadBoard → ReadBoard
+settle Accepted r = r
+settle (Refused x) r = unread x
 
 unfoldable pub readOf : List ℕ → ReadBoard
 readOf s = settle (shapeOf s) (settle (judgedOf (boardAt s)) (accepted (boardAt s)))

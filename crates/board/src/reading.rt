@@ -13,7 +13,7 @@ ghost use Prim.Native.Nat.{_+_, _*_, _<_, _≤_};
 ghost use lib.ListN.{length};
 ghost use Rattle.bitfield.specs.Bits.{widest, valueAt};
 ghost use Rattle.board.specs.Description.{mostComponents, uuidBytes, blank, blankBoard};
-ghost use Rattle.board.specs.Packed.{startOf, lengthOf, componentLength, componentsIn, uuidAt, componentAt, componentsAt, boardAt, reservedClear, shapeOf, settle, accepted};
+ghost use Rattle.board.specs.Packed.{startOf, lengthOf, componentLength, componentsIn, uuidAt, componentAt, componentsAt, boardAt, reservedClear, shapeOf, accepted, unread, settle};
 
 // The bits of a UUID.
 const UUID_BITS: usize = 128;
@@ -175,7 +175,7 @@ pub(crate) fn board_at(s: &[u8]) -> Board
     }
 }
 
-pub(crate) fn blank_board() -> Board
+fn blank_board() -> Board
     ensures { λ r. ⌜ r ≡ blankBoard ⌝ }
 {
     Board {
@@ -187,7 +187,17 @@ pub(crate) fn blank_board() -> Board
     }
 }
 
-// A description that was judged: the board, or the refusal and nothing else.
+// A refusal, and nothing else.
+pub(crate) fn refused(x: Refusal) -> ReadBoard
+    ensures { λ r. ⌜ r ≡ unread x ⌝ }
+{
+    ReadBoard {
+        verdict: Verdict::Refused(x),
+        board: blank_board(),
+    }
+}
+
+// A description that was judged.
 pub(crate) fn settled(v: Verdict, b: Board) -> ReadBoard
     ensures { λ r. ⌜ r ≡ settle v (accepted b) ⌝ }
 {
@@ -196,9 +206,6 @@ pub(crate) fn settled(v: Verdict, b: Board) -> ReadBoard
             verdict: Verdict::Accepted,
             board: b,
         },
-        Verdict::Refused(x) => ReadBoard {
-            verdict: Verdict::Refused(x),
-            board: blank_board(),
-        },
+        Verdict::Refused(x) => refused(x),
     }
 }

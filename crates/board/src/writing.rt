@@ -15,6 +15,16 @@ ghost use Rattle.board.specs.Description.{mostComponents, uuidBytes, Cou
 ghost use Rattle.board.specs.declared.Verdict.the-variants.{Accepted};
 ghost use Rattle.board.specs.Packed.{digitOf, flagsNumber, lengthOf, componentLength, headLength, headBytes, componentBytes, bytesAt, lengthIn, putBy, bufferBy, partBy, Typed, EachTyped, DescribedIf};
 
+// The bytes at which the head's words start, past the counts.
+const FIRST_AT: usize = 2;
+
+const LAST_AT: usize = 10;
+
+// The bytes at which a component's flags and SVN start, past its UUID.
+const FLAGS_AT: usize = 16;
+
+const SVN_AT: usize = 17;
+
 fn digit(b: bool) -> u64
     ensures { λ r. ⌜ r ≡ digitOf b ⌝ }
 {
@@ -54,8 +64,8 @@ fn put_component(buf: &mut [u8], k: usize, c: Component)
 {
     let uuid = c.uuid;
     put_uuid(buf, k, uuid);
-    put_number(buf, k + 16, 1, flags(c));
-    put_number(buf, k + 17, 4, c.svn as u64);
+    put_number(buf, k + FLAGS_AT, 1, flags(c));
+    put_number(buf, k + SVN_AT, 4, c.svn as u64);
 }
 
 fn put_head(buf: &mut [u8], b: Board)
@@ -65,8 +75,8 @@ fn put_head(buf: &mut [u8], b: Board)
 {
     let counts = (b.components - 1) * 64 + (b.cpus - 1);
     put_number(buf, 0, 2, counts * 32);
-    put_number(buf, 2, 8, b.first);
-    put_number(buf, 10, 8, b.last);
+    put_number(buf, FIRST_AT, 8, b.first);
+    put_number(buf, LAST_AT, 8, b.last);
 }
 
 // The components within the count, one after another, past the head.

@@ -27,11 +27,8 @@ settled-requires c κs = search needs
 enum-known-x : tie.Need-enum-known-x
 enum-known-x c = search needs
 
-blank-board-requires : tie.Need-blank-board-requires
-blank-board-requires c κs = search needs
-
-settled-requires-2 : tie.Need-settled-requires-2
-settled-requires-2 c κs = search needs
+refused-requires : tie.Need-refused-requires
+refused-requires c κs = search needs
 
 -- its type says that the slice holds bytes
 known : (c : tie.After-shared-slice-known) → AreBytes (c .before .args .s .now)
@@ -45,8 +42,8 @@ returns c =
 
 returns-2 : tie.Need-returns-2
 returns-2 c =
-    let p = c .before .before .before .before .before in
-    let e = c .settled2 .ensures ∙ read-unshaped _ _ (sym (p .shape .ensures) ∙ c .before .before .before .x .given .1) in
+    let p = c .before .before .before .before in
+    let e = c .refused .ensures ∙ read-unshaped _ _ (sym (p .shape .ensures) ∙ c .before .before .x .given .1) in
     (e, read-back _ _ (known (p .before)) e)
 
 pub read-board-spec : {M : Type 1} → statement M
@@ -59,7 +56,6 @@ read-board-spec =
     judged-requires
     settled-requires
     enum-known-x
-    blank-board-requires
-    settled-requires-2
+    refused-requires
     returns
     returns-2)
