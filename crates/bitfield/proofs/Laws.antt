@@ -100,9 +100,9 @@ unfolding put
 take-put d k j l e h = take-at (take k d ++ l) (drop (k + length l) d) j (put-head d k j l e h)
 
 -- what was written among bytes is bytes
-pub put-bytes : (d : List ℕ) (k : ℕ) (l : List ℕ) → k + length l ≤ length d → AreBytes (put d k l) → AreBytes l
+pub put-are-bytes : (d : List ℕ) (k : ℕ) (l : List ℕ) → k + length l ≤ length d → AreBytes (put d k l) → AreBytes l
 unfolding put
-put-bytes d k l h b i =
+put-are-bytes d k l h b i =
     lt-cases i (length l)
     (λ m.
     let n = length-take-le k d (omega arith) in

@@ -5,7 +5,7 @@ use mathlib.Core.Bool.{Bool, true, false}
 use mathlib.Core.List.{List, [], _∷_, _++_, append-assoc}
 use native.Mathlib.Omega.{arith}
 use lib.Dec.{leb, ltb}
-use lib.ListN.{length, take, length-append}
+use lib.ListN.{length, take, drop, length-append}
 use borrow.Author.Tests.{leb-true, le-leb, ltb-false, lt-ltb, le-ltb}
 use Rattle.basics.specs.Choice.{pick-cases, yes, no, and-left, and-right}
 use Rattle.basics.specs.Places.{inTurn, length-inTurn}
@@ -18,7 +18,7 @@ use Rattle.board.specs.Packed.{lengthOf, componentsIn, boardAt, reserved
 use Rattle.board.specs.declared.Component.{Component}
 use Rattle.board.specs.declared.Board.{Board}
 use Rattle.board.specs.declared.Refusal.{Refusal}
-use Rattle.board.specs.declared.Refusal.the-variants.{TooShort, TooLong, ReservedBit, CountOutside, NoRoom}
+use Rattle.board.specs.declared.Refusal.the-variants.{NoRoom}
 use Rattle.board.specs.declared.Verdict.{Verdict}
 use Rattle.board.specs.declared.Verdict.the-variants.{Accepted, Refused}
 use Rattle.board.specs.declared.Written.{Written}
@@ -29,6 +29,11 @@ use Rattle.board.specs.declared.Written.the-variants.{Bytes, Nothing}
 pub components-most : (s : List ℕ) → componentsIn s ≤ mostComponents
 components-most s = omega (arith, value-lt s 0 5)
 
+-- an accepted description passed each test
+pub passes : (ok : Bool) (x : Refusal) (v : Verdict) → unless ok x v ≡ Accepted → (ok ≡ true) × (v ≡ Accepted)
+passes true x v e = (refl, e)
+passes false x v e = let z : _≡_ {A = ℕ} 0 1 = cc in absurd (omega arith)
+
 -- what has the shape of a description
 pub record Shaped (s : List ℕ) : Type 0 where
   pub whole : length s ≡ lengthOf (componentsIn s)
@@ -36,20 +41,14 @@ pub record Shaped (s : List ℕ) : Type 0 where
 
 pub shape-accepted : (s : List ℕ) → shapeOf s ≡ Accepted → Shaped s
 unfolding shapeOf
-shape-accepted s e = go (leb 2 (length s)) (leb m (length s)) (leb (length s) m) (reservedClear s (componentsIn s)) refl refl refl e
-  where
-    m : ℕ
-    m = lengthOf (componentsIn s)
-
-    go : (a b d r : Bool) → leb m (length s) ≡ b → leb (length s) m ≡ d → reservedClear s (componentsIn s) ≡ r → unless a TooShort (unless b TooShort (unless d TooLong (unless r ReservedBit Accepted))) ≡ Accepted → Shaped s
-    go false b d r p q w h = let z : _≡_ {A = ℕ} 0 1 = cc in absurd (omega arith)
-    go true false d r p q w h = let z : _≡_ {A = ℕ} 0 1 = cc in absurd (omega arith)
-    go true true false r p q w h = let z : _≡_ {A = ℕ} 0 1 = cc in absurd (omega arith)
-    go true true true false p q w h = let z : _≡_ {A = ℕ} 0 1 = cc in absurd (omega arith)
-    go true true true true p q w h =
-        let x = leb-true m (length s) p in
-        let y = leb-true (length s) m q in
-        record { whole = omega arith; clear = w }
+shape-accepted s e =
+    let m = lengthOf (componentsIn s) in
+    let long = passes (leb 2 (length s)) _ _ e .1 in
+    let enough = passes (leb m (length s)) _ _ long in
+    let exact = passes (leb (length s) m) _ _ (enough .1) in
+    let x = leb-true m (length s) (enough .0) in
+    let y = leb-true (length s) m (exact .0) in
+    record { whole = omega arith; clear = passes (reservedClear s (componentsIn s)) _ _ (exact .1) .0 }
 
 pub read-shaped : (s : List ℕ) (v : Verdict) (b : Board) → shapeOf s ≡ Accepted → b ≡ boardAt s → v ≡ judgedOf b → settle v (accepted b) ≡ readOf s
 unfolding readOf
@@ -61,34 +60,30 @@ read-unshaped s x e = rw e
 
 -- ---- writing
 
-pub counted : (b : Board) → countsOf b ≡ true → Counted b
+within : (n most : ℕ) → withinLimit n most ≡ true → (1 ≤ n) × (n ≤ most)
 unfolding withinLimit
+within n most e = (leb-true _ _ (and-left (leb 1 n) (leb n most) e), leb-true _ _ (and-right (leb 1 n) (leb n most) e))
+
+pub counted : (b : Board) → countsOf b ≡ true → Counted b
 counted b e =
-    let p = and-left (withinLimit (b .components) mostComponents) (withinLimit (b .cpus) mostCpus) e in
-    let q = and-right (withinLimit (b .components) mostComponents) (withinLimit (b .cpus) mostCpus) e in
-    record {
-      someComponents = leb-true _ _ (and-left (leb 1 (b .components)) (leb (b .components) mostComponents) p);
-      fewComponents = leb-true _ _ (and-right (leb 1 (b .components)) (leb (b .components) mostComponents) p);
-      someCpus = leb-true _ _ (and-left (leb 1 (b .cpus)) (leb (b .cpus) mostCpus) q);
-      fewCpus = leb-true _ _ (and-right (leb 1 (b .cpus)) (leb (b .cpus) mostCpus) q);
-    }
+    let a = withinLimit (b .components) mostComponents in
+    let c = withinLimit (b .cpus) mostCpus in
+    let p = within (b .components) mostComponents (and-left a c e) in
+    let q = within (b .cpus) mostCpus (and-right a c e) in
+    record { someComponents = p .0; fewComponents = p .1; someCpus = q .0; fewCpus = q .1 }
 
 pub counts : (b : Board) → Counted b → countsOf b ≡ true
 unfolding withinLimit
 counts b k = simp (le-leb _ _ (k .someComponents), le-leb _ _ (k .fewComponents), le-leb _ _ (k .someCpus), le-leb _ _ (k .fewCpus))
 
-pub writable-counted : (b : Board) → writableOf b ≡ Accepted → Counted b
+pub writable-passes : (b : Board) → writableOf b ≡ Accepted → Counted b × (judgedOf b ≡ Accepted)
 unfolding writableOf
-writable-counted b e = counted b (go (countsOf b) e)
-  where
-    go : (t : Bool) → unless t CountOutside (judgedOf b) ≡ Accepted → t ≡ true
-    go true h = refl
-    go false h = let z : _≡_ {A = ℕ} 0 1 = cc in absurd (omega arith)
+writable-passes b e = let p = passes (countsOf b) _ _ e in (counted b (p .0), p .1)
 
 abbrev pub countsNumber : Board → ℕ
 countsNumber b = (b .components - 1) * 64 + (b .cpus - 1)
 
-counts-join : (b : Board) → join (5 ∷ 6 ∷ 5 ∷ []) ((b .components - 1) ∷ (b .cpus - 1) ∷ 0 ∷ []) ≡ countsNumber b * 32
+counts-join : (b : Board) → join (take 3 headWidths) (take 3 (headValues b)) ≡ countsNumber b * 32
 unfolding join
 counts-join b = omega arith
 
@@ -96,9 +91,8 @@ counts-join b = omega arith
 pub head-bytes : (b : Board) → Fit headWidths (headValues b) → headBytes b ≡ bytes 2 (countsNumber b * 32) ++ bytes 8 (b .first) ++ bytes 8 (b .last)
 unfolding headBytes
 head-bytes b f =
-    let counts = (b .components - 1) ∷ (b .cpus - 1) ∷ 0 ∷ [] in
     rw (
-      bytes-join 2 16 (5 ∷ 6 ∷ 5 ∷ []) counts (64 ∷ 64 ∷ []) (b .first ∷ b .last ∷ []) refl (f .0, (f .1 .0, (f .1 .1 .0, tt))) (f .1 .1 .1),
+      bytes-join 2 16 (take 3 headWidths) (take 3 (headValues b)) (drop 3 headWidths) (drop 3 (headValues b)) refl (f .0, (f .1 .0, (f .1 .1 .0, tt))) (f .1 .1 .1),
       bytes-join 8 8 (64 ∷ []) (b .first ∷ []) (64 ∷ []) (b .last ∷ []) refl (f .1 .1 .1 .0, tt) (f .1 .1 .1 .1),
       counts-join b,
       join-one 64 (b .first),
@@ -110,7 +104,7 @@ pub digit-fits : (b : Bool) → digitOf b < 2
 digit-fits true = omega arith
 digit-fits false = omega arith
 
-flags-join : (c : Component) → join (1 ∷ 1 ∷ 1 ∷ 5 ∷ []) (digitOf (c .capable) ∷ digitOf (c .«may_reset») ∷ digitOf (c .optional) ∷ 0 ∷ []) ≡ flagsNumber c * 32
+flags-join : (c : Component) → join (take 4 tailWidths) (take 4 (tailValues c)) ≡ flagsNumber c * 32
 unfolding join
 flags-join c = omega arith
 
@@ -118,9 +112,8 @@ flags-join c = omega arith
 pub component-bytes : (c : Component) → Fit tailWidths (tailValues c) → componentBytes c ≡ c .uuid ++ bytes 1 (flagsNumber c * 32) ++ bytes 4 (c .svn)
 unfolding componentBytes
 component-bytes c f =
-    let flags = digitOf (c .capable) ∷ digitOf (c .«may_reset») ∷ digitOf (c .optional) ∷ 0 ∷ [] in
     rw (
-      bytes-join 1 4 (1 ∷ 1 ∷ 1 ∷ 5 ∷ []) flags (32 ∷ []) (c .svn ∷ []) refl (f .0, (f .1 .0, (f .1 .1 .0, (f .1 .1 .1 .0, tt)))) (f .1 .1 .1 .1),
+      bytes-join 1 4 (take 4 tailWidths) (take 4 (tailValues c)) (drop 4 tailWidths) (drop 4 (tailValues c)) refl (f .0, (f .1 .0, (f .1 .1 .0, (f .1 .1 .1 .0, tt)))) (f .1 .1 .1 .1),
       flags-join c,
       join-one 32 (c .svn),
     )

@@ -16,17 +16,16 @@ use Rattle.bitfield.specs.Bits.{AreBytes, valueAt, bytes}
 use Rattle.bitfield.specs.Layout.{fields, fieldOf, join, Fit}
 use Rattle.bitfield.proofs.Laws.{length-bytes, value-lt, value-byte, firsts-bytes}
 use Rattle.bitfield.proofs.Round.{value-front, value-after, value-inTurn, fields-are, fields-drop, read-written, written-front}
-use Rattle.board.specs.Description.{mostComponents, uuidBytes, blank, absent, componentOf, unless, countsOf, sameUuid, parted, unseen, unlike, apart, distinct, judgedOf, Counted}
+use Rattle.board.specs.Description.{mostComponents, uuidBytes, blank, absent, componentOf, sameUuid, parted, unseen, unlike, apart, distinct, judgedOf, Counted}
 use Rattle.board.specs.Packed.{headWidths, tailWidths, headLength, tailLength, componentLength, lengthOf, startOf, headField, componentsIn, uuidAt, tailField, flagAt, componentAt, boardAt, zeroAt, reservedClear, shapeOf, settle, accepted, readOf, digitOf, headValues, tailValues, headBytes, componentBytes, bytesAt, bytesOf, writableOf, Described, DescribedIf, trimmed, ReadsBack, WritesBackBy, WritesBack}
 use Rattle.board.specs.declared.Component.{Component}
 use Rattle.board.specs.declared.Board.{Board}
 use Rattle.board.specs.declared.ReadBoard.{ReadBoard}
 use Rattle.board.specs.declared.Written.{Written}
 use Rattle.board.specs.declared.Written.the-variants.{Bytes, Nothing}
-use Rattle.board.specs.declared.Refusal.the-variants.{CountOutside}
 use Rattle.board.specs.declared.Verdict.{Verdict}
 use Rattle.board.specs.declared.Verdict.the-variants.{Accepted, Refused}
-use Rattle.board.proofs.Laws.{digit-fits, counts, writable-counted, typed-long, Shaped, shape-accepted}
+use Rattle.board.proofs.Laws.{digit-fits, counts, writable-passes, typed-long, Shaped, shape-accepted}
 
 flag-digit : (b : Bool) → eqb (digitOf b) 1 ≡ b
 flag-digit true = refl
@@ -162,20 +161,12 @@ module _ (b : Board) where
       (λ j m. ap₂ (λ (x y : Component). not (sameUuid (x .uuid) (y .uuid))) (within j (omega arith)) (within i l))) in
       rw (p, q)
 
-  writable-judged : writableOf b ≡ Accepted → judgedOf b ≡ Accepted
-  unfolding writableOf
-  writable-judged e = go (countsOf b) e
-    where
-      go : (t : Bool) → unless t CountOutside (judgedOf b) ≡ Accepted → judgedOf b ≡ Accepted
-      go true h = h
-      go false h = let z : _≡_ {A = ℕ} 0 1 = cc in absurd (omega arith)
-
   -- a description that the writer takes reads back as written, with blanks past its count
   pub reads-back : Described b → writableOf b ≡ Accepted → readOf (bytesOf b) ≡ accepted (trimmed b)
   unfolding readOf
   reads-back d w =
-      let k = writable-counted b w in
-      rw (shape-back b d k, board-back b d k, judged-trimmed, writable-judged w)
+      let p = writable-passes b w in
+      rw (shape-back b d (p .0), board-back b d (p .0), judged-trimmed, p .1)
 
   -- the same of what a write did
   pub written-back : (r : Written) → DescribedIf r b → writableOf b ≡ Accepted → ReadsBack r b
@@ -251,20 +242,25 @@ module _ (s : List ℕ) (bs : AreBytes s) (sh : Shaped s) where
       rw (head-again, inTurn-same n (bytesAt (boardAt s)) (λ i. take componentLength (drop (headLength + componentLength * i) s)) each, inTurn-parts componentLength n headLength s, rest)
       (take-append-drop headLength s)
 
--- what an accepted reading tells
-record Read (s : List ℕ) (b : Board) (v w : Verdict) : Type 0 where
-  shaped : v ≡ Accepted
-  judged : w ≡ Accepted
+-- an accepted reading passed both verdicts, and says what the bytes say
+settled : (v : Verdict) (r : ReadBoard) (b : Board) → settle v r ≡ accepted b → (v ≡ Accepted) × (r ≡ accepted b)
+settled Accepted r b e = (refl, e)
+settled (Refused x) r b e =
+    let v = ap (λ (u : ReadBoard). u .verdict) e in
+    let z : _≡_ {A = ℕ} 0 1 = cc in
+    absurd (omega arith)
+
+record Read (s : List ℕ) (b : Board) : Type 0 where
+  shaped : shapeOf s ≡ Accepted
+  judged : judgedOf (boardAt s) ≡ Accepted
   says : boardAt s ≡ b
 
-read-inv : (s : List ℕ) (b : Board) → readOf s ≡ accepted b → Read s b (shapeOf s) (judgedOf (boardAt s))
+read-inv : (s : List ℕ) (b : Board) → readOf s ≡ accepted b → Read s b
 unfolding readOf
-read-inv s b e = go (shapeOf s) (judgedOf (boardAt s)) e
-  where
-    go : (v w : Verdict) → settle v (settle w (accepted (boardAt s))) ≡ accepted b → Read s b v w
-    go (Refused x) w h = let v = ap (λ (r : ReadBoard). r .verdict) h in let z : _≡_ {A = ℕ} 0 1 = cc in absurd (omega arith)
-    go Accepted (Refused x) h = let v = ap (λ (r : ReadBoard). r .verdict) h in let z : _≡_ {A = ℕ} 0 1 = cc in absurd (omega arith)
-    go Accepted Accepted h = record { shaped = refl; judged = refl; says = ap (λ (r : ReadBoard). r .board) h }
+read-inv s b e =
+    let p = settled (shapeOf s) _ b e in
+    let q = settled (judgedOf (boardAt s)) _ b (p .1) in
+    record { shaped = p .0; judged = q .0; says = ap (λ (r : ReadBoard). r .board) (q .1) }
 
 -- bytes that read are those that writing what they say gives
 pub writes-back : (s : List ℕ) (b : Board) → AreBytes s → readOf s ≡ accepted b → bytesOf b ≡ s

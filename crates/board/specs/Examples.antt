@@ -44,36 +44,33 @@ writing room b = by (putOf room b)
     by (Bytes n) = n
     by (Nothing x) = numberOf x
 
-abbrev is : ℕ → ℕ → Bool
-is a b = eqb a b
-
 unfoldable pub examples : List Bool
 unfolding allBelow firsts inTurn bitAt valueAt bytes join withinLimit judgedOf componentAt boardAt reservedClear shapeOf readOf headBytes componentBytes bytesOf writableOf putOf
 examples =
     -- P 2 components, 4 CPUs: board opens 08 60, length 60
-    is (getD (bytesOf two) 0 0) 0x08
-    ∷ is (getD (bytesOf two) 1 0) 0x60
-    ∷ is (length (bytesOf two)) 60
-    ∷ is (reading (bytesOf two)) 0
-    ∷ is (readOf (bytesOf two) .board .cpus) 4
-    ∷ is (reading []) 20
-    ∷ is (reading (8 ∷ [])) 20
-    ∷ is (reading (take 59 (bytesOf two))) 20
-    ∷ is (reading (bytesOf two ++ 0 ∷ [])) 21
-    ∷ is (reading (set (bytesOf two) 1 0x61)) 22
-    ∷ is (reading (set (bytesOf two) 55 0x30)) 22
-    ∷ is (reading (bytesOf (board 2 4 0xFFF (part 0 true false ∷ part 16 false true ∷ [])))) 23
-    ∷ is (reading (bytesOf (board 2 4 0x1FFF (part 0 true false ∷ part 16 true true ∷ [])))) 24
-    ∷ is (reading (bytesOf (board 2 4 0x1FFF (part 0 true false ∷ part 0 false true ∷ [])))) 25
-    ∷ is (writing 60 two) 60
-    ∷ is (writing 59 two) 27
-    ∷ is (writing 60 (board 0 4 0xFFF [])) 26
-    ∷ is (writing 60 (board 2 65 0xFFF (part 0 true true ∷ part 0 true true ∷ []))) 26
-    ∷ is (writing 59 (board 2 4 0xFFF (part 0 true true ∷ part 0 true true ∷ []))) 23
-    ∷ is (writing 59 (board 2 4 0x1FFF (part 0 true true ∷ part 0 true true ∷ []))) 24
-    ∷ is (writing 59 (board 2 4 0x1FFF (part 0 true false ∷ part 0 true false ∷ []))) 25
+    eqb (getD (bytesOf two) 0 0) 0x08
+    ∷ eqb (getD (bytesOf two) 1 0) 0x60
+    ∷ eqb (length (bytesOf two)) 60
+    ∷ eqb (reading (bytesOf two)) 0
+    ∷ eqb (readOf (bytesOf two) .board .cpus) 4
+    ∷ eqb (reading []) 20
+    ∷ eqb (reading (8 ∷ [])) 20
+    ∷ eqb (reading (take 59 (bytesOf two))) 20
+    ∷ eqb (reading (bytesOf two ++ 0 ∷ [])) 21
+    ∷ eqb (reading (set (bytesOf two) 1 0x61)) 22
+    ∷ eqb (reading (set (bytesOf two) 55 0x30)) 22
+    ∷ eqb (reading (bytesOf (board 2 4 0xFFF (part 0 true false ∷ part 16 false true ∷ [])))) 23
+    ∷ eqb (reading (bytesOf (board 2 4 0x1FFF (part 0 true false ∷ part 16 true true ∷ [])))) 24
+    ∷ eqb (reading (bytesOf (board 2 4 0x1FFF (part 0 true false ∷ part 0 false true ∷ [])))) 25
+    ∷ eqb (writing 60 two) 60
+    ∷ eqb (writing 59 two) 27
+    ∷ eqb (writing 60 (board 0 4 0xFFF [])) 26
+    ∷ eqb (writing 60 (board 2 65 0xFFF (part 0 true true ∷ part 0 true true ∷ []))) 26
+    ∷ eqb (writing 59 (board 2 4 0xFFF (part 0 true true ∷ part 0 true true ∷ []))) 23
+    ∷ eqb (writing 59 (board 2 4 0x1FFF (part 0 true true ∷ part 0 true true ∷ []))) 24
+    ∷ eqb (writing 59 (board 2 4 0x1FFF (part 0 true false ∷ part 0 true false ∷ []))) 25
     -- a flaw past the count is no flaw
-    ∷ is (writing 39 (board 1 4 0x1FFF (part 0 true false ∷ part 0 true true ∷ []))) 39
+    ∷ eqb (writing 39 (board 1 4 0x1FFF (part 0 true false ∷ part 0 true true ∷ []))) 39
     ∷ []
 
 pub examples-hold : allHold examples ≡ true

@@ -87,10 +87,11 @@ pub(crate) fn shape(s: &[u8]) -> Verdict
         return Verdict::Refused(Refusal::TooShort);
     }
     let n = components_in(s);
-    if s.len() < HEAD + EACH * n {
+    let whole = HEAD + EACH * n;
+    if s.len() < whole {
         return Verdict::Refused(Refusal::TooShort);
     }
-    if s.len() > HEAD + EACH * n {
+    if s.len() > whole {
         return Verdict::Refused(Refusal::TooLong);
     }
     if is_reserved_clear(s, n) {

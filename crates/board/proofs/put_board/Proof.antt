@@ -1,5 +1,5 @@
 use mathlib.Core.Path.{sym, _∙_}
-use Rattle.board.proofs.Laws.{writable-counted, unwritable, by-room}
+use Rattle.board.proofs.Laws.{writable-passes, unwritable, by-room}
 use Rattle.board.proofs.Round.{written-back}
 use borrow.Author.Needs.{needs}
 use Rattle.board.proofs.put_board.Statement.{statement}
@@ -12,7 +12,7 @@ enum-told : tie.Need-enum-told
 enum-told c = search needs
 
 put-writable-requires : tie.Need-put-writable-requires
-put-writable-requires c κs = writable-counted _ (sym (c .before .before .before .writable .ensures) ∙ c .before .enum-told .given .1)
+put-writable-requires c κs = writable-passes _ (sym (c .before .before .before .writable .ensures) ∙ c .before .enum-told .given .1) .0
 
 enum-known-x : tie.Need-enum-known-x
 enum-known-x c = search needs

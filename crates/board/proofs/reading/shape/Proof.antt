@@ -15,23 +15,17 @@ returns c = no _ (lt-leb _ _ (c .if1 .taken)) refl
 components-in-requires : tie.Need-components-in-requires
 components-in-requires c κs = search needs
 
-mul-if2 : tie.Need-mul-if2
-mul-if2 c = omega (arith, value-lt (c .before .before .before .args .s .now) 0 5)
+mul-whole : tie.Need-mul-whole
+mul-whole c = omega (arith, value-lt (c .before .before .before .args .s .now) 0 5)
 
-add-if2 : tie.Need-add-if2
-add-if2 c = omega (arith, value-lt (c .before .before .before .args .s .now) 0 5)
+add-whole : tie.Need-add-whole
+add-whole c = omega (arith, value-lt (c .before .before .before .args .s .now) 0 5)
 
 returns-2 : tie.Need-returns-2
 unfolding shapeOf
 returns-2 c =
     yes _ (le-leb _ _ (c .before .before .if1 .left))
     (no _ (lt-leb _ _ (rw (c .before .components-in .ensures) at (c .if2 .taken))) refl)
-
-mul-if3 : tie.Need-mul-if3
-mul-if3 c = search needs
-
-add-if3 : tie.Need-add-if3
-add-if3 c = search needs
 
 returns-3 : tie.Need-returns-3
 unfolding shapeOf
@@ -67,11 +61,9 @@ shape-spec =
     (tie.spec
     returns
     components-in-requires
-    mul-if2
-    add-if2
+    mul-whole
+    add-whole
     returns-2
-    mul-if3
-    add-if3
     returns-3
     is-reserved-clear-requires
     returns-4

@@ -3,7 +3,7 @@ use native.Mathlib.Omega.{arith}
 use Prim.Native.Nat.{_*_}
 use lib.ListN.{length}
 use Rattle.bitfield.specs.Layout.{Fit}
-use Rattle.bitfield.proofs.Laws.{length-bytes, put-bytes, put-three}
+use Rattle.bitfield.proofs.Laws.{length-bytes, put-are-bytes, put-three}
 use Rattle.board.specs.Description.{uuidBytes}
 use Rattle.board.specs.Packed.{tailWidths, tailValues, flagsNumber}
 use Rattle.board.proofs.Laws.{digit-fits, component-bytes}
@@ -59,7 +59,7 @@ returns c =
       rw w (put-three _ _ _ _ _ _ _ (a .c .uuid) _ _ (first .put-uuid .ensures) (rw (second .before .flags .ensures) at (second .put-number .ensures)) (third .put-number2 .ensures) (omega arith) (omega arith) (omega arith)),
       record {
         long = u;
-        bytes = put-bytes (a .buf .now) (a .k) (a .c .uuid) (omega arith) (λ i. rw (← first .put-uuid .ensures) (omega (arith, known .slice-known2 .given i)));
+        bytes = put-are-bytes (a .buf .now) (a .k) (a .c .uuid) (omega arith) (λ i. rw (← first .put-uuid .ensures) (omega (arith, known .slice-known2 .given i)));
         svn = fit st .1 .1 .1 .1 .0;
       },
     )
