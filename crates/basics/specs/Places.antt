@@ -5,8 +5,8 @@ use mathlib.Core.List.{List, [], _∷_, _++_, append-assoc, append-nil}
 use native.Mathlib.Omega.{arith}
 use native.Mathlib.Numerals.{add-one}
 use native.Mathlib.Nat.{mul-suc}
-use lib.ListN.{length, getD, take, drop, set, replicate, length-append, length-drop, List·getD-append}
-use lib.Seq.{set-at, getD-at, take-suc, getD-drop, take-add, drop-drop}
+use lib.ListN.{length, getD, take, drop, set, replicate, length-append, length-drop, getD-replicate, List·getD-append}
+use lib.Seq.{set-at, getD-at, take-suc, getD-drop, getD-append-add, take-add, drop-drop}
 use Rattle.basics.specs.Order.{last-cases}
 
 -- f 0 to f (n - 1)
@@ -53,6 +53,13 @@ module _ {A : Type 0} (f : ℕ → A) where
   pub getD-table : (m : ℕ) (z : A) (n i : ℕ) (d : A) → i < n → getD (table m z n f) i d ≡ f i
   getD-table m z n i d l =
       List·getD-append (firsts n f) (replicate (m - n) z) d i (omega (arith, length-firsts n)) ∙ getD-firsts n i d l
+
+  -- past the count
+  pub getD-past : (m : ℕ) (z : A) (n j : ℕ) (d : A) → j < m - n → getD (table m z n f) (n + j) d ≡ z
+  getD-past m z n j d l =
+      ap (λ (k : ℕ). getD (table m z n f) (k + j) d) (sym (length-firsts n))
+      ∙ getD-append-add (firsts n f) (replicate (m - n) z) j d
+      ∙ getD-replicate (m - n) j z d l
 
 pub firsts-same : {A : Type 0} (n : ℕ) (f g : ℕ → A) → ((i : ℕ) → i < n → f i ≡ g i) → firsts n f ≡ firsts n g
 unfolding firsts

@@ -7,14 +7,14 @@ use native.Mathlib.Omega.{arith}
 use lib.Dec.{leb, ltb}
 use lib.ListN.{length, take, drop, length-append}
 use borrow.Author.Tests.{leb-true, le-leb, ltb-false, lt-ltb, le-ltb}
-use Rattle.basics.specs.Choice.{pick-cases, yes, no, and-left, and-right}
+use Rattle.basics.specs.Choice.{pick-cases, yes, no, not-both, and-left, and-right}
 use Rattle.basics.specs.Places.{inTurn, length-inTurn}
 use Rattle.bitfield.specs.Bits.{bytes, put}
 use Rattle.bitfield.specs.Layout.{join, Fit}
 use Rattle.bitfield.proofs.Laws.{value-lt, length-bytes, put-put, take-put}
 use Rattle.bitfield.proofs.Round.{join-one, bytes-join}
-use Rattle.board.specs.Description.{mostComponents, mostCpus, componentOf, unless, withinLimit, countsOf, Counted, judgedOf}
-use Rattle.board.specs.Packed.{lengthOf, componentsIn, boardAt, reservedClear, shapeOf, unread, settle, accepted, readOf, digitOf, flagsNumber, headWidths, headValues, tailWidths, tailValues, headLength, tailLength, headBytes, componentBytes, componentLength, bytesAt, bytesOf, writableOf, lengthIn, putBy, putOf, bufferBy, bufferOf, partBy, partOf, Typed, EachTyped}
+use Rattle.board.specs.Description.{mostComponents, mostCpus, componentOf, blankPast, unless, withinLimit, countsOf, Counted, judgedOf}
+use Rattle.board.specs.Packed.{lengthOf, componentsIn, boardAt, reservedClear, shapeOf, unread, settle, accepted, readOf, digitOf, flagsNumber, headWidths, headValues, tailWidths, tailValues, headLength, tailLength, headBytes, componentBytes, componentLength, bytesAt, bytesOf, writableOf, isAccepted, isWritable, boardStands, lengthIn, putBy, putOf, bufferBy, bufferOf, partBy, partOf, Typed, EachTyped}
 use Rattle.board.specs.declared.Component.{Component}
 use Rattle.board.specs.declared.Board.{Board}
 use Rattle.board.specs.declared.Refusal.{Refusal}
@@ -79,6 +79,17 @@ counts b k = simp (le-leb _ _ (k .someComponents), le-leb _ _ (k .fewComponents)
 pub writable-passes : (b : Board) → writableOf b ≡ Accepted → Counted b × (judgedOf b ≡ Accepted)
 unfolding writableOf
 writable-passes b e = let p = passes (countsOf b) _ _ e in (counted b (p .0), p .1)
+
+is-accepted : (v : Verdict) → isAccepted v ≡ true → v ≡ Accepted
+is-accepted Accepted e = refl
+is-accepted (Refused x) e = absurd (not-both e refl)
+
+pub writable-counted : (b : Board) → isWritable b ≡ true → Counted b
+writable-counted b e = writable-passes b (is-accepted (writableOf b) e) .0
+
+pub stands-counted : (b : Board) → boardStands b ≡ true → Counted b
+unfolding boardStands
+stands-counted b e = writable-counted b (and-left (isWritable b) (blankPast b) e)
 
 abbrev pub countsNumber : Board → ℕ
 countsNumber b = (b .components - 1) * 64 + (b .cpus - 1)

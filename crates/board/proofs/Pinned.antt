@@ -5,6 +5,10 @@ use Rattle.board.proofs.number.Kinds as number-kinds
 use Rattle.board.proofs.number.Reads as number-reads
 use Rattle.board.proofs.good_entry.Kinds as good-entry-kinds
 use Rattle.board.proofs.good_entry.Reads as good-entry-reads
+use Rattle.board.proofs.numbered.Kinds as numbered-kinds
+use Rattle.board.proofs.numbered.Reads as numbered-reads
+use Rattle.board.proofs.is_well_formed.Kinds as is-well-formed-kinds
+use Rattle.board.proofs.is_well_formed.Reads as is-well-formed-reads
 use Rattle.board.proofs.read_board.Kinds as read-board-kinds
 use Rattle.board.proofs.read_board.Reads as read-board-reads
 use Rattle.board.proofs.put_board.Kinds as put-board-kinds
@@ -17,6 +21,12 @@ number-pinned κs a z z′ ws ws′ p q = just p q
 
 pub good-entry-pinned : OneOutcome 0 good-entry-kinds.ps good-entry-kinds.r good-entry-reads.Post
 good-entry-pinned κs a z z′ ws ws′ p q = just p q
+
+pub numbered-pinned : OneOutcome 0 numbered-kinds.ps numbered-kinds.r numbered-reads.Post
+numbered-pinned κs a z z′ ws ws′ p q = just p q
+
+pub is-well-formed-pinned : OneOutcome 0 is-well-formed-kinds.ps is-well-formed-kinds.r is-well-formed-reads.Post
+is-well-formed-pinned κs a z z′ ws ws′ p q = just p q
 
 pub read-board-pinned : OneOutcome 1 read-board-kinds.ps read-board-kinds.r read-board-reads.Post
 read-board-pinned κs a z z′ ws ws′ p q = just (p .0) (q .0)

@@ -11,13 +11,13 @@ use lib.Seq.{take-all, take-add, drop-drop, getD-drop}
 use borrow.Author.Tests.{eqb-true, eqb-false, eq-eqb, le-leb}
 use Rattle.basics.specs.Choice.{yes, and-left, and-right}
 use Rattle.basics.specs.Every.{allBelow, all-of, all-at, all-same}
-use Rattle.basics.specs.Places.{firsts, inTurn, length-inTurn, inTurn-same, inTurn-parts, firsts-same, firsts-part, getD-table, length-firsts}
+use Rattle.basics.specs.Places.{firsts, inTurn, length-inTurn, inTurn-same, inTurn-parts, firsts-same, firsts-part, getD-table, getD-past, length-firsts}
 use Rattle.bitfield.specs.Bits.{AreBytes, valueAt, bytes}
 use Rattle.bitfield.specs.Layout.{fields, fieldOf, join, Fit}
 use Rattle.bitfield.proofs.Laws.{length-bytes, value-lt, value-byte, firsts-bytes}
 use Rattle.bitfield.proofs.Round.{value-front, value-after, value-inTurn, fields-are, fields-drop, read-written, written-front}
-use Rattle.board.specs.Description.{mostComponents, uuidBytes, blank, absent, componentOf, sameUuid, parted, unseen, unlike, apart, distinct, judgedOf, Counted}
-use Rattle.board.specs.Packed.{headWidths, tailWidths, headLength, tailLength, componentLength, lengthOf, startOf, headField, componentsIn, uuidAt, tailField, flagAt, componentAt, boardAt, zeroAt, reservedClear, shapeOf, settle, accepted, readOf, digitOf, headValues, tailValues, headBytes, componentBytes, bytesAt, bytesOf, writableOf, Described, DescribedIf, trimmed, ReadsBack, WritesBackBy, WritesBack}
+use Rattle.board.specs.Description.{mostComponents, uuidBytes, blank, absent, componentOf, sameUuid, parted, unseen, unlike, apart, distinct, judgedOf, Counted, isBlank, blankPast}
+use Rattle.board.specs.Packed.{headWidths, tailWidths, headLength, tailLength, componentLength, lengthOf, startOf, headField, componentsIn, uuidAt, tailField, flagAt, componentAt, boardAt, zeroAt, reservedClear, shapeOf, settle, accepted, readOf, digitOf, headValues, tailValues, headBytes, componentBytes, bytesAt, bytesOf, writableOf, boardStands, Described, DescribedIf, trimmed, ReadsBack, WritesBackBy, WritesBack}
 use Rattle.board.specs.declared.Component.{Component}
 use Rattle.board.specs.declared.Board.{Board}
 use Rattle.board.specs.declared.ReadBoard.{ReadBoard}
@@ -312,3 +312,14 @@ unfolding writableOf
 read-writable s b e =
     let i = read-inv s b e in
     rw (← i .says) (read-described s, rw (counts (boardAt s) (read-counted s)) (i .judged))
+
+read-blank : (s : List ℕ) → blankPast (boardAt s) ≡ true
+unfolding boardAt allBelow
+read-blank s =
+    let n = componentsIn s in
+    all-of (mostComponents - n) _ (λ j l. ap isBlank (getD-past (λ i. componentAt s (startOf i)) mostComponents blank n j absent l))
+
+-- a board that reading gives stands in a record
+pub read-stands : (s : List ℕ) (b : Board) → readOf s ≡ accepted b → boardStands b ≡ true
+unfolding boardStands
+read-stands s b e = rw (read-writable s b e .1, ← read-inv s b e .says) (read-blank s)

@@ -1,8 +1,8 @@
 -- The board description (document 01, "The board and its record") and when it is refused. Assumes nothing.
-use Prim.Native.Nat.{ℕ, _%_, _≤_}
+use Prim.Native.Nat.{ℕ, _+_, _-_, _%_, _≤_}
 use mathlib.Core.Bool.{Bool, false, not, _&&_}
 use mathlib.Core.List.{List, []}
-use lib.Dec.{eqb, leb}
+use lib.Dec.{eqb, leb, ltb}
 use lib.ListN.{getD, replicate}
 use Rattle.basics.specs.Choice.{pick}
 use Rattle.basics.specs.Every.{allBelow}
@@ -38,6 +38,25 @@ absent = record { uuid = []; capable = false; «may_reset» = false; optional = 
 abbrev pub componentOf : Board → ℕ → Component
 componentOf b i = getD (b .component) i absent
 
+-- component number i, and a blank where the table has no such place
+unfoldable pub numberedOf : Board → ℕ → Component
+numberedOf b i = pick (ltb i mostComponents) (componentOf b i) blank
+
+-- two UUIDs are the same, byte for byte
+abbrev pub sameAt : List ℕ → List ℕ → ℕ → Bool
+sameAt u v k = eqb (getD u k 0) (getD v k 0)
+
+abbrev pub sameUuid : List ℕ → List ℕ → Bool
+sameUuid u v = allBelow uuidBytes (sameAt u v)
+
+-- "all places past a count are 0"
+abbrev pub isBlank : Component → Bool
+isBlank c =
+    sameUuid (c .uuid) (replicate uuidBytes 0) && (not (c .capable) && (not (c .«may_reset») && (not (c .optional) && eqb (c .svn) 0)))
+
+abbrev pub blankPast : Board → Bool
+blankPast b = allBelow (mostComponents - b .components) (λ j. isBlank (componentOf b (b .components + j)))
+
 -- "a multiple of 4 in the range", both ends inside
 unfoldable pub goodEntry : ℕ → ℕ → ℕ → Bool
 goodEntry first last entry = eqb (entry % 4) 0 && (leb first entry && leb entry last)
@@ -70,12 +89,6 @@ abbrev pub apart : Board → Bool
 apart b = allBelow (b .components) (parted (b .component))
 
 -- 25: UUID twice: at no place stands a UUID that a place before it has
-abbrev pub sameAt : List ℕ → List ℕ → ℕ → Bool
-sameAt u v k = eqb (getD u k 0) (getD v k 0)
-
-abbrev pub sameUuid : List ℕ → List ℕ → Bool
-sameUuid u v = allBelow uuidBytes (sameAt u v)
-
 abbrev pub unlike : List Component → ℕ → ℕ → Bool
 unlike cs i j = not (sameUuid (getD cs j absent .uuid) (getD cs i absent .uuid))
 

@@ -10,7 +10,7 @@ use Rattle.basics.specs.Every.{allBelow}
 use Rattle.basics.specs.Places.{firsts, table, inTurn}
 use Rattle.bitfield.specs.Bits.{AreBytes, valueAt, bytes, put}
 use Rattle.bitfield.specs.Layout.{fieldOf, join}
-use Rattle.board.specs.Description.{mostComponents, uuidBytes, blank, blankBoard, componentOf, unless, countsOf, judgedOf}
+use Rattle.board.specs.Description.{mostComponents, uuidBytes, blank, blankBoard, componentOf, unless, countsOf, judgedOf, blankPast}
 use Rattle.board.specs.declared.Component.{Component}
 use Rattle.board.specs.declared.Board.{Board}
 use Rattle.board.specs.declared.Refusal.{Refusal}
@@ -141,6 +141,17 @@ bytesOf b = headBytes b ++ inTurn (b .components) (bytesAt b)
 -- 26, 23, 24, 25
 unfoldable pub writableOf : Board → Verdict
 writableOf b = unless (countsOf b) CountOutside (judgedOf b)
+
+abbrev pub isAccepted : Verdict → Bool
+isAccepted Accepted = true
+isAccepted (Refused x) = false
+
+abbrev pub isWritable : Board → Bool
+isWritable b = isAccepted (writableOf b)
+
+-- what a well-formed record asks of its board: the rules of a description, and blanks past its count
+unfoldable pub boardStands : Board → Bool
+boardStands b = isWritable b && blankPast b
 
 -- 27 last
 abbrev pub putBy : Verdict → ℕ → ℕ → Written

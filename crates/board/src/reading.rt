@@ -136,7 +136,7 @@ fn component_at(s: &[u8], at: usize) -> Component
     }
 }
 
-fn blank_component() -> Component
+pub(crate) fn blank_component() -> Component
     ensures { λ r. ⌜ r ≡ blank ⌝ }
 {
     Component {

@@ -1,5 +1,6 @@
 // The rules that a description itself must keep: its counts, its range, its flags and its UUIDs.
 use crate::Board;
+use crate::Component;
 use crate::MOST_COMPONENTS;
 use crate::MOST_CPUS;
 use crate::Refusal;
@@ -7,8 +8,8 @@ use crate::UUID_BYTES;
 use crate::Verdict;
 ghost use mathlib.Core.Path.{_≡_};
 ghost use Prim.Native.Nat.{_+_, _<_, _≤_};
-ghost use Rattle.board.specs.Description.{mostComponents, withinLimit, countsOf, parted, unseen, apart, distinct, sameUuid, judgedOf};
-ghost use Rattle.board.specs.Packed.{writableOf};
+ghost use Rattle.board.specs.Description.{mostComponents, withinLimit, countsOf, parted, unseen, apart, distinct, sameUuid, judgedOf, isBlank, blankPast};
+ghost use Rattle.board.specs.Packed.{writableOf, isWritable};
 
 fn same_uuid(u: [u8; UUID_BYTES], v: [u8; UUID_BYTES]) -> bool
     ensures { λ r. ⌜ r ≡ sameUuid u v ⌝ }
@@ -114,7 +115,7 @@ fn has_counts(b: Board) -> bool
     ensures { λ r. ⌜ r ≡ countsOf b ⌝ }
 {
     if within_limit(b.components, MOST_COMPONENTS as u64) {
-        within_limit(b.cpus, MOST_CPUS)
+        within_limit(b.cpus, MOST_CPUS as u64)
     } else {
         false
     }
@@ -128,4 +129,50 @@ pub(crate) fn writable(b: Board) -> Verdict
     } else {
         Verdict::Refused(Refusal::CountOutside)
     }
+}
+
+pub(crate) fn is_writable(b: Board) -> bool
+    ensures { λ r. ⌜ r ≡ isWritable b ⌝ }
+{
+    match writable(b) {
+        Verdict::Accepted => true,
+        Verdict::Refused(_) => false,
+    }
+}
+
+fn is_blank(c: Component) -> bool
+    ensures { λ r. ⌜ r ≡ isBlank c ⌝ }
+{
+    let uuid = c.uuid;
+    if same_uuid(uuid, [0; UUID_BYTES]) {
+        if c.capable {
+            return false;
+        }
+        if c.may_reset {
+            return false;
+        }
+        if c.optional {
+            return false;
+        }
+        c.svn == 0
+    } else {
+        false
+    }
+}
+
+pub(crate) fn is_blank_past(b: Board) -> bool
+    requires { ⌜ b .components ≤ mostComponents ⌝ }
+    ensures { λ r. ⌜ r ≡ blankPast b ⌝ }
+{
+    let n = b.components as usize;
+    let past = MOST_COMPONENTS - n;
+    let mut j: usize = 0;
+    while j < past {
+        if is_blank(b.component[n + j]) {
+            j += 1;
+        } else {
+            return false;
+        }
+    }
+    true
 }

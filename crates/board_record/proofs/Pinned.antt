@@ -1,0 +1,42 @@
+-- Each public function's promise leaves one outcome. Assumes nothing.
+use Rattle.basics.proofs.Pin.{OneOutcome, just}
+use Rattle.board_record.proofs.fresh.Kinds as fresh-kinds
+use Rattle.board_record.proofs.fresh.Reads as fresh-reads
+use Rattle.board_record.proofs.subject_of.Kinds as subject-of-kinds
+use Rattle.board_record.proofs.subject_of.Reads as subject-of-reads
+use Rattle.board_record.proofs.is_gathering.Kinds as is-gathering-kinds
+use Rattle.board_record.proofs.is_gathering.Reads as is-gathering-reads
+use Rattle.board_record.proofs.goes_alone.Kinds as goes-alone-kinds
+use Rattle.board_record.proofs.goes_alone.Reads as goes-alone-reads
+use Rattle.board_record.proofs.is_for.Kinds as is-for-kinds
+use Rattle.board_record.proofs.is_for.Reads as is-for-reads
+use Rattle.board_record.proofs.is_pending.Kinds as is-pending-kinds
+use Rattle.board_record.proofs.is_pending.Reads as is-pending-reads
+use Rattle.board_record.proofs.version_of.Kinds as version-of-kinds
+use Rattle.board_record.proofs.version_of.Reads as version-of-reads
+use Rattle.board_record.proofs.is_well_formed.Kinds as is-well-formed-kinds
+use Rattle.board_record.proofs.is_well_formed.Reads as is-well-formed-reads
+
+pub fresh-pinned : OneOutcome 0 fresh-kinds.ps fresh-kinds.r fresh-reads.Post
+fresh-pinned κs a z z′ ws ws′ p q = just p q
+
+pub subject-of-pinned : OneOutcome 0 subject-of-kinds.ps subject-of-kinds.r subject-of-reads.Post
+subject-of-pinned κs a z z′ ws ws′ p q = just p q
+
+pub is-gathering-pinned : OneOutcome 0 is-gathering-kinds.ps is-gathering-kinds.r is-gathering-reads.Post
+is-gathering-pinned κs a z z′ ws ws′ p q = just p q
+
+pub goes-alone-pinned : OneOutcome 0 goes-alone-kinds.ps goes-alone-kinds.r goes-alone-reads.Post
+goes-alone-pinned κs a z z′ ws ws′ p q = just p q
+
+pub is-for-pinned : OneOutcome 0 is-for-kinds.ps is-for-kinds.r is-for-reads.Post
+is-for-pinned κs a z z′ ws ws′ p q = just p q
+
+pub is-pending-pinned : OneOutcome 0 is-pending-kinds.ps is-pending-kinds.r is-pending-reads.Post
+is-pending-pinned κs a z z′ ws ws′ p q = just p q
+
+pub version-of-pinned : OneOutcome 0 version-of-kinds.ps version-of-kinds.r version-of-reads.Post
+version-of-pinned κs a z z′ ws ws′ p q = just p q
+
+pub is-well-formed-pinned : OneOutcome 0 is-well-formed-kinds.ps is-well-formed-kinds.r is-well-formed-reads.Post
+is-well-formed-pinned κs a z z′ ws ws′ p q = just p q

@@ -1,0 +1,94 @@
+-- The board's record (document 01, "The board and its record"): its states and how it starts. Assumes nothing.
+use Prim.Native.Nat.{ℕ}
+use mathlib.Core.Bool.{Bool, true, false}
+use mathlib.Core.List.{List}
+use lib.Dec.{eqb}
+use lib.ListN.{getD, replicate}
+use Rattle.cpuset.specs.Set.{noneOf, onlyOf}
+use Rattle.board.specs.Description.{mostComponents, mostCpus}
+use Rattle.board.specs.declared.Board.{Board}
+use Rattle.board_record.specs.declared.State.{State}
+use Rattle.board_record.specs.declared.State.the-variants.{Idle, Preparing, HalfPrepared, Ready, Gathering, Together, Alone, HalfActivated, Dead}
+use Rattle.board_record.specs.declared.Subject.{Subject}
+use Rattle.board_record.specs.declared.Subject.the-variants.{Nothing, Component}
+use Rattle.board_record.specs.declared.Holding.{Holding}
+use Rattle.board_record.specs.declared.Holding.the-variants.{Nobody, One, Part, All}
+use Rattle.board_record.specs.declared.Record.{Record}
+
+-- "the state with its component (idle and dead have none)"
+abbrev pub subjectOf : State → Subject
+subjectOf Idle = Nothing
+subjectOf (Preparing c) = Component c
+subjectOf (HalfPrepared c) = Component c
+subjectOf (Ready c) = Component c
+subjectOf (Gathering c) = Component c
+subjectOf (Together c) = Component c
+subjectOf (Alone c) = Component c
+subjectOf (HalfActivated c) = Component c
+subjectOf Dead = Nothing
+
+abbrev pub isAbout : Subject → ℕ → Bool
+isAbout Nothing id = false
+isAbout (Component c) id = eqb c id
+
+-- the state's component is number id
+abbrev pub isFor : State → ℕ → Bool
+isFor s id = isAbout (subjectOf s) id
+
+-- "one powered CPU in preparing or alone; a non-empty proper part of the powered ones in gathering; all of them in
+-- together; none elsewhere"
+abbrev pub holdingOf : State → Holding
+holdingOf Idle = Nobody
+holdingOf (Preparing c) = One
+holdingOf (HalfPrepared c) = Nobody
+holdingOf (Ready c) = Nobody
+holdingOf (Gathering c) = Part
+holdingOf (Together c) = All
+holdingOf (Alone c) = One
+holdingOf (HalfActivated c) = Nobody
+holdingOf Dead = Nobody
+
+-- an activation without rendezvous
+abbrev pub goesAlone : State → Bool
+goesAlone Idle = false
+goesAlone (Preparing c) = false
+goesAlone (HalfPrepared c) = false
+goesAlone (Ready c) = false
+goesAlone (Gathering c) = false
+goesAlone (Together c) = false
+goesAlone (Alone c) = true
+goesAlone (HalfActivated c) = true
+goesAlone Dead = false
+
+-- some of the powered CPUs are held for ACTIVATE, and not all
+abbrev pub isGathering : State → Bool
+isGathering Idle = false
+isGathering (Preparing c) = false
+isGathering (HalfPrepared c) = false
+isGathering (Ready c) = false
+isGathering (Gathering c) = true
+isGathering (Together c) = false
+isGathering (Alone c) = false
+isGathering (HalfActivated c) = false
+isGathering Dead = false
+
+-- whether component id has a pending image, and "each pending image's version (0 where none is pending)"
+abbrev pub isPending : List Bool → ℕ → Bool
+isPending pending id = getD pending id false
+
+abbrev pub versionOf : List ℕ → ℕ → ℕ
+versionOf version id = getD version id 0
+
+-- "Fresh: CPU 0 on, others off, nothing pending, state idle, GET_INFO not yet called"
+unfoldable pub freshOf : Board → Record
+freshOf b = record {
+  board = b;
+  pending = replicate mostComponents false;
+  version = replicate mostComponents 0;
+  state = Idle;
+  on = onlyOf 0;
+  held = noneOf;
+  entry = replicate mostCpus 0;
+  context = replicate mostCpus 0;
+  informed = false;
+}

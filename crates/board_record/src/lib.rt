@@ -1,0 +1,178 @@
+// The board's record: what it holds, how it starts, and when it is well formed.
+mod standing;
+
+ghost use mathlib.Core.Path.{_≡_};
+ghost use Rattle.board_record.specs.Record.{subjectOf, holdingOf, isFor, goesAlone, isGathering, isPending, versionOf, freshOf};
+ghost use Rattle.board_record.specs.WellFormed.{wellFormed};
+use board::Board;
+use cpuset::CpuSet;
+
+// What the board is doing, with the component it is about.
+pub enum State {
+    Idle,
+    Preparing(u64),
+    HalfPrepared(u64),
+    Ready(u64),
+    Gathering(u64),
+    Together(u64),
+    Alone(u64),
+    HalfActivated(u64),
+    Dead,
+}
+
+// The component that a state is about.
+pub enum Subject {
+    Nothing,
+    Component(u64),
+}
+
+// How many of the powered CPUs are held.
+enum Holding {
+    Nobody,
+    One,
+    Part,
+    All,
+}
+
+// The record of a board: its description, the pending images with their versions, the state, the powered and the held
+// CPUs, the entries and context ids of those that may be resumed by entry, and whether GET_INFO is noted.
+pub struct Record {
+    pub board: Board,
+    pub pending: [bool; board::MOST_COMPONENTS],
+    pub version: [u32; board::MOST_COMPONENTS],
+    pub state: State,
+    pub on: CpuSet,
+    pub held: CpuSet,
+    pub entry: [u64; board::MOST_CPUS],
+    pub context: [u64; board::MOST_CPUS],
+    pub informed: bool,
+}
+
+// The record of a board that was just switched on.
+pub fn fresh(b: Board) -> Record
+    ensures { λ r. ⌜ r ≡ freshOf b ⌝ }
+{
+    Record {
+        board: b,
+        pending: [false; board::MOST_COMPONENTS],
+        version: [0; board::MOST_COMPONENTS],
+        state: State::Idle,
+        on: cpuset::only(0),
+        held: cpuset::none(),
+        entry: [0; board::MOST_CPUS],
+        context: [0; board::MOST_CPUS],
+        informed: false,
+    }
+}
+
+// The component that a state is about.
+pub fn subject_of(s: State) -> Subject
+    ensures { λ r. ⌜ r ≡ subjectOf s ⌝ }
+{
+    match s {
+        State::Idle => Subject::Nothing,
+        State::Preparing(c) => Subject::Component(c),
+        State::HalfPrepared(c) => Subject::Component(c),
+        State::Ready(c) => Subject::Component(c),
+        State::Gathering(c) => Subject::Component(c),
+        State::Together(c) => Subject::Component(c),
+        State::Alone(c) => Subject::Component(c),
+        State::HalfActivated(c) => Subject::Component(c),
+        State::Dead => Subject::Nothing,
+    }
+}
+
+// Which of the powered CPUs a state holds.
+fn holding_of(s: State) -> Holding
+    ensures { λ r. ⌜ r ≡ holdingOf s ⌝ }
+{
+    match s {
+        State::Idle => Holding::Nobody,
+        State::Preparing(_) => Holding::One,
+        State::HalfPrepared(_) => Holding::Nobody,
+        State::Ready(_) => Holding::Nobody,
+        State::Gathering(_) => Holding::Part,
+        State::Together(_) => Holding::All,
+        State::Alone(_) => Holding::One,
+        State::HalfActivated(_) => Holding::Nobody,
+        State::Dead => Holding::Nobody,
+    }
+}
+
+// Whether a state is of an activation without rendezvous.
+pub fn goes_alone(s: State) -> bool
+    ensures { λ r. ⌜ r ≡ goesAlone s ⌝ }
+{
+    match s {
+        State::Idle => false,
+        State::Preparing(_) => false,
+        State::HalfPrepared(_) => false,
+        State::Ready(_) => false,
+        State::Gathering(_) => false,
+        State::Together(_) => false,
+        State::Alone(_) => true,
+        State::HalfActivated(_) => true,
+        State::Dead => false,
+    }
+}
+
+// Whether some of the powered CPUs are held for ACTIVATE, and not all.
+pub fn is_gathering(s: State) -> bool
+    ensures { λ r. ⌜ r ≡ isGathering s ⌝ }
+{
+    match s {
+        State::Idle => false,
+        State::Preparing(_) => false,
+        State::HalfPrepared(_) => false,
+        State::Ready(_) => false,
+        State::Gathering(_) => true,
+        State::Together(_) => false,
+        State::Alone(_) => false,
+        State::HalfActivated(_) => false,
+        State::Dead => false,
+    }
+}
+
+// Whether a state is about component id.
+pub fn is_for(s: State, id: u64) -> bool
+    ensures { λ r. ⌜ r ≡ isFor s id ⌝ }
+{
+    match subject_of(s) {
+        Subject::Nothing => false,
+        Subject::Component(c) => c == id,
+    }
+}
+
+// Whether an image of component id is pending.
+pub fn is_pending(pending: [bool; board::MOST_COMPONENTS], id: u64) -> bool
+    ensures { λ r. ⌜ r ≡ isPending pending id ⌝ }
+{
+    if id < board::MOST_COMPONENTS as u64 {
+        pending[id as usize]
+    } else {
+        false
+    }
+}
+
+// The version of the pending image of component id, 0 where none is.
+pub fn version_of(version: [u32; board::MOST_COMPONENTS], id: u64) -> u32
+    ensures { λ r. ⌜ r ≡ versionOf version id ⌝ }
+{
+    if id < board::MOST_COMPONENTS as u64 {
+        version[id as usize]
+    } else {
+        0
+    }
+}
+
+// Whether a record is one that the agent's rules speak of.
+pub fn is_well_formed(rec: Record) -> bool
+    ensures { λ r. ⌜ r ≡ wellFormed rec ⌝ }
+{
+    let b = rec.board;
+    if board::is_well_formed(b) {
+        standing::is_rest_right(rec)
+    } else {
+        false
+    }
+}

@@ -1,0 +1,208 @@
+// The clauses of a well-formed record, past those of its board.
+use crate::Holding;
+use crate::Record;
+use crate::State;
+use crate::Subject;
+use board::Board;
+use board::Component;
+use cpuset::CpuSet;
+ghost use mathlib.Core.Path.{_≡_};
+ghost use Rattle.board_record.specs.WellFormed.{poweredStand, imageStands, imagesStand, subjectStands, stateStands, heldBy, heldStand, mayReset, keepsEntries, keptOf, entryStands, entriesStand, restStands};
+
+fn is_powered_right(cpus: u64, on: CpuSet) -> bool
+    ensures { λ r. ⌜ r ≡ poweredStand cpus on ⌝ }
+{
+    if cpuset::is_none(on) {
+        return false;
+    }
+    cpuset::within(on, cpuset::below(cpus))
+}
+
+fn is_image_right(exists: bool, capable: bool, pending: bool, version: u32) -> bool
+    ensures { λ r. ⌜ r ≡ imageStands exists capable pending version ⌝ }
+{
+    if pending {
+        if exists { capable } else { false }
+    } else {
+        version == 0
+    }
+}
+
+fn are_images_right(
+    b: Board,
+    pending: [bool; board::MOST_COMPONENTS],
+    version: [u32; board::MOST_COMPONENTS],
+) -> bool
+    ensures { λ r. ⌜ r ≡ imagesStand b pending version ⌝ }
+{
+    let mut i: usize = 0;
+    while i < board::MOST_COMPONENTS {
+        let c = b.component[i];
+        if is_image_right((i as u64) < b.components, c.capable, pending[i], version[i]) {
+            i += 1;
+        } else {
+            return false;
+        }
+    }
+    true
+}
+
+fn is_subject_right(c: Component, alone: bool, pending: bool, version: u32) -> bool
+    ensures { λ r. ⌜ r ≡ subjectStands c alone pending version ⌝ }
+{
+    if pending {
+        if version < c.svn {
+            return false;
+        }
+        if alone { c.optional } else { true }
+    } else {
+        false
+    }
+}
+
+fn is_state_right(rec: Record) -> bool
+    ensures { λ r. ⌜ r ≡ stateStands (rec .board) (rec .pending) (rec .version) (rec .state) ⌝ }
+{
+    let s = rec.state;
+    match crate::subject_of(s) {
+        Subject::Nothing => true,
+        Subject::Component(c) => {
+            let b = rec.board;
+            let pending = rec.pending;
+            let version = rec.version;
+            is_subject_right(
+                board::numbered(b, c),
+                crate::goes_alone(s),
+                crate::is_pending(pending, c),
+                crate::version_of(version, c),
+            )
+        }
+    }
+}
+
+fn is_one_held(on: CpuSet, held: CpuSet) -> bool
+    ensures { λ r. ⌜ r ≡ heldBy Holding.One on held ⌝ }
+{
+    if cpuset::within(held, on) {
+        cpuset::count(held) == 1
+    } else {
+        false
+    }
+}
+
+fn is_part_held(on: CpuSet, held: CpuSet) -> bool
+    ensures { λ r. ⌜ r ≡ heldBy Holding.Part on held ⌝ }
+{
+    if cpuset::is_none(held) {
+        return false;
+    }
+    if cpuset::same(held, on) {
+        return false;
+    }
+    cpuset::within(held, on)
+}
+
+fn is_held_right(s: State, on: CpuSet, held: CpuSet) -> bool
+    ensures { λ r. ⌜ r ≡ heldStand s on held ⌝ }
+{
+    match crate::holding_of(s) {
+        Holding::Nobody => cpuset::is_none(held),
+        Holding::One => is_one_held(on, held),
+        Holding::Part => is_part_held(on, held),
+        Holding::All => cpuset::same(held, on),
+    }
+}
+
+fn may_reset(b: Board, c: u64) -> bool
+    ensures { λ r. ⌜ r ≡ mayReset b c ⌝ }
+{
+    let part = board::numbered(b, c);
+    part.may_reset
+}
+
+fn keeps_entries(b: Board, s: State) -> bool
+    ensures { λ r. ⌜ r ≡ keepsEntries b s ⌝ }
+{
+    match s {
+        State::Idle => false,
+        State::Preparing(_) => false,
+        State::HalfPrepared(_) => false,
+        State::Ready(_) => false,
+        State::Gathering(c) => may_reset(b, c),
+        State::Together(c) => may_reset(b, c),
+        State::Alone(_) => false,
+        State::HalfActivated(_) => false,
+        State::Dead => false,
+    }
+}
+
+fn is_entry_right(first: u64, last: u64, kept: bool, entry: u64, context: u64) -> bool
+    ensures { λ r. ⌜ r ≡ entryStands first last kept entry context ⌝ }
+{
+    if kept {
+        board::good_entry(first, last, entry)
+    } else {
+        if entry == 0 { context == 0 } else { false }
+    }
+}
+
+// The CPUs whose entries are kept: the held ones or none.
+fn kept(b: Board, s: State, held: CpuSet) -> CpuSet
+    ensures { λ r. ⌜ r ≡ keptOf b s held ⌝ }
+{
+    if keeps_entries(b, s) {
+        held
+    } else {
+        cpuset::none()
+    }
+}
+
+fn are_entries_right(
+    first: u64,
+    last: u64,
+    kept: CpuSet,
+    entry: [u64; board::MOST_CPUS],
+    context: [u64; board::MOST_CPUS],
+) -> bool
+    ensures { λ r. ⌜ r ≡ entriesStand first last kept entry context ⌝ }
+{
+    let mut i: usize = 0;
+    while i < board::MOST_CPUS {
+        if is_entry_right(
+            first,
+            last,
+            cpuset::has(kept, i as u64),
+            entry[i],
+            context[i],
+        ) {
+            i += 1;
+        } else {
+            return false;
+        }
+    }
+    true
+}
+
+// What stands past the board: the powered CPUs, the images, the state, the held CPUs and their entries.
+pub(crate) fn is_rest_right(rec: Record) -> bool
+    ensures { λ r. ⌜ r ≡ restStands rec ⌝ }
+{
+    let b = rec.board;
+    let pending = rec.pending;
+    let version = rec.version;
+    let on = rec.on;
+    let held = rec.held;
+    let s = rec.state;
+    let entry = rec.entry;
+    let context = rec.context;
+    if is_powered_right(b.cpus, on) {
+        if are_images_right(b, pending, version) {
+            if is_state_right(rec) {
+                if is_held_right(s, on, held) {
+                    return are_entries_right(b.first, b.last, kept(b, s, held), entry, context);
+                }
+            }
+        }
+    }
+    false
+}
