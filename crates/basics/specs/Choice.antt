@@ -1,7 +1,7 @@
 -- A choice by a test, and how a proof goes along one. Assumes nothing.
 use Prim.Native.Nat.{ℕ}
 use mathlib.Core.Path.{_≡_, refl, sym, subst, _∙_}
-use mathlib.Core.Bool.{Bool, true, false, _&&_}
+use mathlib.Core.Bool.{Bool, true, false, _&&_, _||_}
 use native.Mathlib.Omega.{arith}
 
 -- the first where the test holds, else the second
@@ -28,6 +28,10 @@ pick-cases P false x y t f = f refl
 pub not-both : {b : Bool} → b ≡ true → b ≡ false → ⊥
 not-both {b} p q = let z : _≡_ {A = ℕ} 0 1 = cc in omega arith
 
+pub refuted : (b : Bool) → (b ≡ true → ⊥) → b ≡ false
+refuted true f = absurd (f refl)
+refuted false f = refl
+
 pub and-left : (a b : Bool) → (a && b) ≡ true → a ≡ true
 and-left true b e = refl
 and-left false b e = e
@@ -35,3 +39,7 @@ and-left false b e = e
 pub and-right : (a b : Bool) → (a && b) ≡ true → b ≡ true
 and-right true b e = e
 and-right false b e = absurd (not-both e refl)
+
+pub or-cases : {C : Type 0} (a b : Bool) → (a || b) ≡ true → (a ≡ true → C) → (b ≡ true → C) → C
+or-cases true b e f g = f refl
+or-cases false b e f g = g e

@@ -14,6 +14,7 @@ use Rattle.board.specs.Description.{mostComponents, mostCpus}
 use Rattle.board.specs.Packed.{boardStands}
 use Rattle.board.specs.declared.Board.{Board}
 use Rattle.board.proofs.Laws.{stands-counted}
+use Rattle.board_record.proofs.Clauses.{entries-zero}
 use Rattle.board_record.specs.Record.{freshOf}
 use Rattle.board_record.specs.WellFormed.{poweredStand, imageStands, imagesStand, stateStands, heldStand, entryStands, entriesStand, restStands, wellFormed}
 
@@ -36,11 +37,7 @@ images : (b : Board) → imagesStand b (replicate mostComponents false) (replica
 unfolding imagesStand imageStands allBelow
 images b = refl
 
-entries : (first last : ℕ) → entriesStand first last noneOf (replicate mostCpus 0) (replicate mostCpus 0) ≡ true
-unfolding entriesStand entryStands
-entries first last = all-of mostCpus _ (λ i l. rw (has-none i, getD-replicate {A = ℕ} mostCpus i 0 0 l))
-
 pub fresh-stands : (b : Board) → boardStands b ≡ true → wellFormed (freshOf b) ≡ true
 unfolding wellFormed restStands freshOf stateStands heldStand
 fresh-stands b e =
-    rw (e, powered (b .cpus) (stands-counted b e .someCpus), images b, same-eq noneOf noneOf refl, entries (b .first) (b .last))
+    rw (e, powered (b .cpus) (stands-counted b e .someCpus), images b, same-eq noneOf noneOf refl, entries-zero (b .first) (b .last))

@@ -27,7 +27,7 @@ pub enum Subject {
 }
 
 // How many of the powered CPUs are held.
-enum Holding {
+pub enum Holding {
     Nobody,
     One,
     Part,

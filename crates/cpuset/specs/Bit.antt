@@ -1,11 +1,11 @@
 -- The bits of a number, and how the operations of a word go on them. Assumes nothing.
-use Prim.Native.Nat.{ℕ, zero, suc, _-_, _/_, _%_, _^_, _<_}
+use Prim.Native.Nat.{ℕ, zero, suc, _-_, _/_, _%_, _^_, _<_, _≤_}
 use mathlib.Core.Path.{_≡_, refl, sym, ap₂, _∙_}
 use mathlib.Core.Bool.{Bool, true, false, not, _&&_, _||_}
 use native.Mathlib.Nat.{pow-suc, pow-succ', div-div-eq-div-mul, div-one, zero-div}
 use native.Mathlib.Omega.{arith}
 use lib.Dec.{ltb, eqb, eqb·zero-suc, eqb·suc-zero, eqb·suc-suc, leb·suc-suc, leb·zero, leb·suc-zero}
-use lib.Bits.{bitAnd, bitOr, bitXor, and-shr, or-shr, xor-shr, and-mod, or-mod, xor-mod}
+use lib.Bits.{bitAnd, bitOr, bitXor, and-shr, or-shr, xor-shr, and-mod, or-mod, xor-mod, xor-add-and, and-le-l, and-le-r}
 use lib.Pow.{pow-pos}
 use borrow.Author.Tests.{eqb-true, eqb-false}
 use Rattle.basics.specs.Choice.{pick, pick-cases}
@@ -89,3 +89,8 @@ bitLess a b = bitXor a (bitAnd a b)
 pub bit-less : (a b j : ℕ) → bit (bitLess a b) j ≡ (bit a j && not (bit b j))
 bit-less =
     bit-op bitLess (λ p q. p && not q) (λ a b k. rw (xor-shr, and-shr)) (λ a b k. rw (xor-mod, and-mod)) refl refl refl refl
+
+-- nothing of a is outside b only where a is no larger
+pub less-none : (a b : ℕ) → bitLess a b ≡ 0 → a ≤ b
+less-none a b e =
+    omega (arith, xor-add-and a (bitAnd a b), and-le-l a (bitAnd a b), and-le-r a (bitAnd a b), and-le-r a b)

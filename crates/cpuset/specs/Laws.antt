@@ -12,10 +12,10 @@ use borrow.Author.Tests.{lt-ltb, le-ltb, eqb-true, eq-eqb, ne-eqb, not-false}
 use Rattle.basics.specs.Choice.{not-both}
 use Rattle.basics.specs.Every.{all-at, all-of}
 use Rattle.basics.specs.Order.{lt-cases}
-use Rattle.basics.specs.Places.{firsts}
-use Rattle.cpuset.specs.Bit.{bit, bit-zero, bit-or, bitLess, bit-less}
+use Rattle.basics.specs.Places.{firsts, getD-firsts}
+use Rattle.cpuset.specs.Bit.{bit, bit-zero, bit-or, bitLess, bit-less, less-none}
 use Rattle.cpuset.specs.Tally.{tally-same, tally-none, tally-zero, tally-more}
-use Rattle.cpuset.specs.Words.{member-firsts, member-out, words-firsts, words-at, same-words, tally-words, total, onlyIn, bit-only, only-fits, belowIn, bit-below, below-fits}
+use Rattle.cpuset.specs.Words.{member-firsts, member-out, words-firsts, words-at, words-of, same-words, tally-words, total, onlyIn, bit-only, only-fits, belowIn, bit-below, below-fits}
 use Rattle.cpuset.specs.Set.{wordCount, words, of, room, word, Set, hasOf, noneOf, onlyOf, unionOf, lessOf, withOf, withoutOf, belowOf, sameOf, withinOf, countOf}
 use Rattle.cpuset.specs.declared.CpuSet.{CpuSet}
 
@@ -142,6 +142,19 @@ within-of s t p h = none-of (lessOf s t) (set-less s t p) λ j l. has-less s t j
     left : (a b : Bool) → (a ≡ true → b ≡ true) → (a && not b) ≡ false
     left true b f = rw (f refl)
     left false b f = refl
+
+-- what lies within a set is a set
+word-of : (f : ℕ → ℕ) (k : ℕ) → k < wordCount → word (of f) k ≡ f k
+unfolding firsts
+word-of f k l = getD-firsts f wordCount k 0 l
+
+pub set-within : (s t : CpuSet) → Set t → withinOf s t ≡ true → Set s
+unfolding Set lessOf noneOf
+set-within s t q e =
+    words-of (words s) λ k l.
+    let w : bitLess (word s k) (word t k) ≡ 0 =
+    sym (word-of (λ i. bitLess (word s i) (word t i)) k l) ∙ ap (λ (u : CpuSet). word u k) (same-is (lessOf s t) noneOf e) ∙ word-of (λ i. 0) k l in
+    lt-of-le-of-lt (less-none (word s k) (word t k) w) (words-at (words t) q k)
 
 pub only-out : (i : ℕ) → room ≤ i → onlyOf i ≡ noneOf
 only-out i l = same-members (onlyOf i) noneOf (set-only i) set-none λ j m. rw (has-only, has-none, le-ltb i room l)

@@ -100,6 +100,10 @@ words-at [] p k = lit< tt
 words-at (w ∷ ws) p zero = p .0
 words-at (w ∷ ws) p (suc k) = words-at ws (p .1) k
 
+pub words-of : (ws : List ℕ) → ((k : ℕ) → k < length ws → getD ws k 0 < 2 ^ 64) → Words ws
+words-of [] h = tt
+words-of (w ∷ ws) h = (h 0 (omega arith), words-of ws (λ k l. h (suc k) (omega arith)))
+
 pub member-out : (ws : List ℕ) (j : ℕ) → length ws * 64 ≤ j → member ws j ≡ false
 member-out ws j l = rw (List·getD-eq-default ws 0 {n = j / 64} (omega arith)) (bit-zero (j % 64))
 

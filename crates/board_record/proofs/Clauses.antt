@@ -1,0 +1,86 @@
+-- What a well-formed record tells, fact by fact, and how it is shown. Assumes nothing.
+use Prim.Native.Nat.{ℕ, _<_}
+use mathlib.Core.Path.{_≡_, refl, sym, _∙_}
+use mathlib.Core.Bool.{Bool, true, false, not, _&&_}
+use mathlib.Core.List.{List}
+use lib.Dec.{eqb, ltb}
+use lib.ListN.{length, getD, replicate, getD-replicate}
+use borrow.Author.Tests.{ltb-true}
+use Rattle.basics.specs.Choice.{not-both, and-left, and-right}
+use Rattle.basics.specs.Every.{all-of}
+use Rattle.cpuset.specs.Set.{Set, room, hasOf, noneOf, belowOf, sameOf, withinOf, countOf}
+use Rattle.cpuset.specs.Laws.{has-none, has-below, set-none, set-below, set-within, same-is, within-has, within-of}
+use Rattle.cpuset.specs.declared.CpuSet.{CpuSet}
+use Rattle.board.specs.Description.{mostComponents, mostCpus}
+use Rattle.board.specs.Packed.{boardStands}
+use Rattle.board_record.specs.Record.{holdingOf}
+use Rattle.board_record.specs.WellFormed.{poweredStand, imagesStand, stateStands, heldBy, heldStand, keptOf, entryStands, entriesStand, restStands, wellFormed}
+use Rattle.board_record.specs.declared.Record.{Record}
+use Rattle.board_record.specs.declared.State.{State}
+use Rattle.board_record.specs.declared.Holding.{Holding}
+use Rattle.board_record.specs.declared.Holding.the-variants.{Nobody, One, Part, All}
+
+-- the clauses, each a fact
+pub record WellFormed (r : Record) : Type 0 where
+  pub board : boardStands (r .board) ≡ true
+  pub powered : poweredStand (r .board .cpus) (r .on) ≡ true
+  pub images : imagesStand (r .board) (r .pending) (r .version) ≡ true
+  pub state : stateStands (r .board) (r .pending) (r .version) (r .state) ≡ true
+  pub held : heldStand (r .state) (r .on) (r .held) ≡ true
+  pub entries : entriesStand (r .board .first) (r .board .last) (keptOf (r .board) (r .state) (r .held)) (r .entry) (r .context) ≡ true
+
+both : (a b : Bool) → (a && b) ≡ true → (a ≡ true) × (b ≡ true)
+both a b e = (and-left a b e, and-right a b e)
+
+pub told : (r : Record) → wellFormed r ≡ true → WellFormed r
+unfolding wellFormed restStands
+told r e =
+    let a = both (boardStands (r .board)) _ e in
+    let b = both (poweredStand (r .board .cpus) (r .on)) _ (a .1) in
+    let c = both (imagesStand (r .board) (r .pending) (r .version)) _ (b .1) in
+    let d = both (stateStands (r .board) (r .pending) (r .version) (r .state)) _ (c .1) in
+    let f = both (heldStand (r .state) (r .on) (r .held)) _ (d .1) in
+    record { board = a .0; powered = b .0; images = c .0; state = d .0; held = f .0; entries = f .1 }
+
+pub shown : (r : Record) → WellFormed r → wellFormed r ≡ true
+unfolding wellFormed restStands
+shown r w = rw (w .board, w .powered, w .images, w .state, w .held, w .entries)
+
+-- what the types of a record's tables say of their lengths
+pub record Sized (r : Record) : Type 0 where
+  pub pending : length (r .pending) ≡ mostComponents
+  pub version : length (r .version) ≡ mostComponents
+  pub entry : length (r .entry) ≡ mostCpus
+  pub context : length (r .context) ≡ mostCpus
+
+-- ---- the powered and the held CPUs
+pub powered-within : (cpus : ℕ) (on : CpuSet) → poweredStand cpus on ≡ true → withinOf on (belowOf cpus) ≡ true
+unfolding poweredStand
+powered-within cpus on e = and-right (not (sameOf on noneOf)) (withinOf on (belowOf cpus)) e
+
+pub powered-set : (cpus : ℕ) (on : CpuSet) → poweredStand cpus on ≡ true → Set on
+powered-set cpus on e = set-within on (belowOf cpus) (set-below cpus) (powered-within cpus on e)
+
+pub powered-below : (cpus : ℕ) (on : CpuSet) → poweredStand cpus on ≡ true → (j : ℕ) → hasOf on j ≡ true → j < cpus
+powered-below cpus on e j h =
+    ltb-true j cpus (and-right (ltb j room) (ltb j cpus) (sym (has-below cpus j) ∙ within-has on (belowOf cpus) (powered-within cpus on e) j h))
+
+-- whoever is held is powered
+held-by : (h : Holding) (on held : CpuSet) → Set on → heldBy h on held ≡ true → withinOf held on ≡ true
+held-by Nobody on held s e =
+    rw (same-is held noneOf e) (within-of noneOf on set-none (λ j l p. absurd (none j p)))
+  where
+    none : (j : ℕ) → hasOf noneOf j ≡ true → ⊥
+    none j p = not-both p (has-none j)
+held-by One on held s e = and-left (withinOf held on) (eqb (countOf held) 1) e
+held-by Part on held s e = and-right (not (sameOf held on)) _ (and-right (not (sameOf held noneOf)) _ e)
+held-by All on held s e = rw (same-is held on e) (within-of on on s (λ j l p. p))
+
+pub held-within : (s : State) (on held : CpuSet) → Set on → heldStand s on held ≡ true → withinOf held on ≡ true
+unfolding heldStand
+held-within s on held p e = held-by (holdingOf s) on held p e
+
+-- ---- where nothing is kept, nothing stands in the tables
+pub entries-zero : (first last : ℕ) → entriesStand first last noneOf (replicate mostCpus 0) (replicate mostCpus 0) ≡ true
+unfolding entriesStand entryStands
+entries-zero first last = all-of mostCpus _ (λ i l. rw (has-none i, getD-replicate {A = ℕ} mostCpus i 0 0 l))

@@ -1,0 +1,34 @@
+use mathlib.Core.Path.{refl}
+use Rattle.basics.specs.Choice.{by, no, yes}
+use Rattle.rules.specs.Reports.{primeReportOf}
+use borrow.Author.Needs.{needs}
+use Rattle.rules.proofs.reports.prime.Statement.{statement}
+use Rattle.rules.proofs.reports.prime.Tie as tie
+
+is-priming-requires : tie.Need-is-priming-requires
+is-priming-requires c κs = search needs
+
+prime-allows-requires : tie.Need-prime-allows-requires
+prime-allows-requires c κs = search needs
+
+returns : tie.Need-returns
+unfolding primeReportOf
+returns c =
+    let first = c .before .before in
+    yes _ (by (first .before .is-priming .ensures) (first .if1 .taken))
+    (yes _ (by (c .before .prime-allows .ensures) (c .if2 .taken)) refl)
+
+returns-2 : tie.Need-returns-2
+unfolding primeReportOf
+returns-2 c =
+    let first = c .before .before in
+    yes _ (by (first .before .is-priming .ensures) (first .if1 .taken))
+    (no _ (by (c .before .prime-allows .ensures) (c .if2 .left)) refl)
+
+returns-3 : tie.Need-returns-3
+unfolding primeReportOf
+returns-3 c = no _ (by (c .before .is-priming .ensures) (c .if1 .left)) refl
+
+pub prime-spec : {M : Type 1} → statement M
+prime-spec =
+    tie.close (tie.spec is-priming-requires prime-allows-requires returns returns-2 returns-3)

@@ -1,0 +1,6 @@
+pub mod Moves
+pub mod Numbers
+pub mod Table
+pub mod Calls
+pub mod Reports
+pub mod Decide

@@ -1,0 +1,93 @@
+-- What reports and images call for (document 01, "Reports" and "Events and what they answer"). Assumes nothing.
+use Prim.Native.Nat.{ℕ}
+use mathlib.Core.Bool.{Bool, true, false, not, _&&_}
+use lib.Dec.{eqb}
+use Rattle.basics.specs.Choice.{pick}
+use Rattle.board.specs.Description.{numberedOf}
+use Rattle.board_record.specs.Record.{isFor}
+use Rattle.board_record.specs.declared.Record.{Record}
+use Rattle.board_record.specs.declared.State.{State}
+use Rattle.board_record.specs.declared.State.the-variants.{Idle, Preparing, HalfPrepared, Ready, Gathering, Together, Alone, HalfActivated, Dead}
+use Rattle.rules.specs.Moves.{isCapable, isAlone}
+use Rattle.rules.specs.declared.Report.{Report}
+use Rattle.rules.specs.declared.Image.{Image}
+use Rattle.rules.specs.declared.Refusal.the-variants.{NoSuchJob, CodeNotAllowed, NotCapable, InHand}
+use Rattle.rules.specs.declared.Move.{Move}
+use Rattle.rules.specs.declared.Move.the-variants.{Refuse, EndPrime, EndActivate, Arrive}
+
+-- a prime job is running for component id
+abbrev pub isPriming : State → ℕ → Bool
+isPriming Idle id = false
+isPriming (Preparing c) id = eqb c id
+isPriming (HalfPrepared c) id = false
+isPriming (Ready c) id = false
+isPriming (Gathering c) id = false
+isPriming (Together c) id = false
+isPriming (Alone c) id = false
+isPriming (HalfActivated c) id = false
+isPriming Dead id = false
+
+-- an activate job is
+abbrev pub isActivating : State → ℕ → Bool
+isActivating Idle id = false
+isActivating (Preparing c) id = false
+isActivating (HalfPrepared c) id = false
+isActivating (Ready c) id = false
+isActivating (Gathering c) id = false
+isActivating (Together c) id = eqb c id
+isActivating (Alone c) id = eqb c id
+isActivating (HalfActivated c) id = false
+isActivating Dead id = false
+
+-- "Prime allows 0, 1, 3, 4, 6, 11"
+unfoldable pub primeAllows : ℕ → Bool
+primeAllows code =
+    pick (eqb code 0) true
+    (pick (eqb code 1) true
+    (pick (eqb code 3) true
+    (pick (eqb code 4) true
+    (pick (eqb code 6) true
+    (pick (eqb code 11) true
+    false)))))
+
+-- "12 in together with may_reset only"
+abbrev pub resumesOf : Bool → Bool → Bool
+resumesOf alone reset = not alone && reset
+
+-- "Activate allows 0; 1 in alone only; 12 ..; 2, 3, 4, 5, 6, 9, 11"
+unfoldable pub activateAllows : Bool → Bool → ℕ → Bool
+activateAllows alone reset code =
+    pick (eqb code 0) true
+    (pick (eqb code 1) alone
+    (pick (eqb code 2) true
+    (pick (eqb code 3) true
+    (pick (eqb code 4) true
+    (pick (eqb code 5) true
+    (pick (eqb code 6) true
+    (pick (eqb code 9) true
+    (pick (eqb code 11) true
+    (pick (eqb code 12) (resumesOf alone reset)
+    false)))))))))
+
+-- 5, 6: "no job of that kind running for that component; code not allowed for it"
+unfoldable pub primeReportOf : Record → Report → Move
+primeReportOf r p =
+    pick (isPriming (r .state) (p .component))
+    (pick (primeAllows (p .code)) (EndPrime p)
+    (Refuse CodeNotAllowed))
+    (Refuse NoSuchJob)
+
+unfoldable pub activateReportOf : Record → Report → Move
+activateReportOf r p =
+    pick (isActivating (r .state) (p .component))
+    (pick (activateAllows (isAlone (r .state)) (numberedOf (r .board) (p .component) .«may_reset») (p .code)) (EndActivate p)
+    (Refuse CodeNotAllowed))
+    (Refuse NoSuchJob)
+
+-- 7, 8: "no such or not capable component; it is the state's component"
+unfoldable pub imageOf : Record → Image → Move
+imageOf r i =
+    pick (isCapable (r .board) (i .component))
+    (pick (isFor (r .state) (i .component)) (Refuse InHand)
+    (Arrive i))
+    (Refuse NotCapable)

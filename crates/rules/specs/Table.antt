@@ -1,0 +1,52 @@
+-- The table of rules (document 01, "Calls"): "one row for each state and one cell for each call". Assumes nothing.
+use Prim.Native.Nat.{ℕ}
+use mathlib.Core.List.{List, [], _∷_, map}
+use lib.ListN.{length, getD}
+use Rattle.board_record.specs.declared.State.{State}
+use Rattle.board_record.specs.declared.State.the-variants.{Idle, Preparing, HalfPrepared, Ready, Gathering, Together, Alone, HalfActivated, Dead}
+use Rattle.rules.specs.declared.cells.PrimeCell.{PrimeCell}
+use Rattle.rules.specs.declared.cells.PrimeCell.the-variants as prime
+use Rattle.rules.specs.declared.cells.ActivateCell.{ActivateCell}
+use Rattle.rules.specs.declared.cells.ActivateCell.the-variants as activate
+use Rattle.rules.specs.declared.cells.CancelCell.{CancelCell}
+use Rattle.rules.specs.declared.cells.CancelCell.the-variants as cancel
+use Rattle.rules.specs.declared.cells.PowerCell.{PowerCell}
+use Rattle.rules.specs.declared.cells.PowerCell.the-variants as power
+use Rattle.rules.specs.declared.cells.Row.{Row}
+
+-- a cell `Answers k` is the status -k
+abbrev cells : PrimeCell → ActivateCell → CancelCell → PowerCell → Row
+cells p a c w = record { prime = p; activate = a; cancel = c; power = w }
+
+-- | State | PRIME | ACTIVATE | CANCEL | OFF, ON |
+abbrev pub ruleOf : State → Row
+ruleOf Idle = cells prime.Try (activate.Answers 7) (cancel.Answers 0) power.Free
+ruleOf (Preparing c) = cells (prime.Answers 2) (activate.Answers 7) (cancel.Answers 2) power.Free
+ruleOf (HalfPrepared c) = cells prime.TrySame (activate.Answers 7) cancel.ToIdle power.Free
+ruleOf (Ready c) = cells (prime.Answers 7) activate.Try cancel.ToIdle power.Free
+ruleOf (Gathering c) = cells (prime.Answers 7) activate.Try cancel.ToIdle power.Frozen
+ruleOf (Together c) = cells prime.NoCaller activate.NoCaller cancel.NoCaller power.NoCaller
+ruleOf (Alone c) = cells (prime.Answers 7) activate.Try (cancel.Answers 2) power.Frozen
+ruleOf (HalfActivated c) = cells (prime.Answers 7) activate.Try cancel.ToIdle power.Frozen
+ruleOf Dead = cells (prime.Answers 7) (activate.Answers 7) (cancel.Answers 0) power.Free
+
+-- the order of the rows in the code's table
+abbrev pub placeOf : State → ℕ
+placeOf Idle = 0
+placeOf (Preparing c) = 1
+placeOf (HalfPrepared c) = 2
+placeOf (Ready c) = 3
+placeOf (Gathering c) = 4
+placeOf (Together c) = 5
+placeOf (Alone c) = 6
+placeOf (HalfActivated c) = 7
+placeOf Dead = 8
+
+abbrev inOrder : List State
+inOrder = Idle ∷ Preparing 0 ∷ HalfPrepared 0 ∷ Ready 0 ∷ Gathering 0 ∷ Together 0 ∷ Alone 0 ∷ HalfActivated 0 ∷ Dead ∷ []
+
+abbrev pub states : ℕ
+states = length inOrder
+
+abbrev pub rowAt : ℕ → Row
+rowAt i = getD (map ruleOf inOrder) i (cells prime.Try activate.Try cancel.ToIdle power.Free)

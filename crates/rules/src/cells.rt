@@ -1,0 +1,130 @@
+// The table of rules: one row for each state, one cell for each call.
+use board_record::State;
+ghost use mathlib.Core.Path.{_≡_};
+ghost use Prim.Native.Nat.{_<_};
+ghost use Rattle.rules.specs.Table.{placeOf, rowAt, ruleOf, states};
+
+// What PRIME does: the try, the try of the state's component alone, or a status -k.
+pub enum PrimeCell {
+    Try,
+    TrySame,
+    Answers(u64),
+    NoCaller,
+}
+
+pub enum ActivateCell {
+    Try,
+    Answers(u64),
+    NoCaller,
+}
+
+pub enum CancelCell {
+    ToIdle,
+    Answers(u64),
+    NoCaller,
+}
+
+pub enum PowerCell {
+    Free,
+    Frozen,
+    NoCaller,
+}
+
+pub struct Row {
+    pub prime: PrimeCell,
+    pub activate: ActivateCell,
+    pub cancel: CancelCell,
+    pub power: PowerCell,
+}
+
+// How many states there are.
+const STATES: usize = 9;
+
+const RULES: [Row; STATES] = [
+    Row {
+        prime: PrimeCell::Try,
+        activate: ActivateCell::Answers(7),
+        cancel: CancelCell::Answers(0),
+        power: PowerCell::Free,
+    },
+    Row {
+        prime: PrimeCell::Answers(2),
+        activate: ActivateCell::Answers(7),
+        cancel: CancelCell::Answers(2),
+        power: PowerCell::Free,
+    },
+    Row {
+        prime: PrimeCell::TrySame,
+        activate: ActivateCell::Answers(7),
+        cancel: CancelCell::ToIdle,
+        power: PowerCell::Free,
+    },
+    Row {
+        prime: PrimeCell::Answers(7),
+        activate: ActivateCell::Try,
+        cancel: CancelCell::ToIdle,
+        power: PowerCell::Free,
+    },
+    Row {
+        prime: PrimeCell::Answers(7),
+        activate: ActivateCell::Try,
+        cancel: CancelCell::ToIdle,
+        power: PowerCell::Frozen,
+    },
+    Row {
+        prime: PrimeCell::NoCaller,
+        activate: ActivateCell::NoCaller,
+        cancel: CancelCell::NoCaller,
+        power: PowerCell::NoCaller,
+    },
+    Row {
+        prime: PrimeCell::Answers(7),
+        activate: ActivateCell::Try,
+        cancel: CancelCell::Answers(2),
+        power: PowerCell::Frozen,
+    },
+    Row {
+        prime: PrimeCell::Answers(7),
+        activate: ActivateCell::Try,
+        cancel: CancelCell::ToIdle,
+        power: PowerCell::Frozen,
+    },
+    Row {
+        prime: PrimeCell::Answers(7),
+        activate: ActivateCell::Answers(7),
+        cancel: CancelCell::Answers(0),
+        power: PowerCell::Free,
+    },
+];
+
+// A state's place in the table.
+fn place(s: State) -> usize
+    ensures { λ r. ⌜ r ≡ placeOf s ⌝ }
+{
+    match s {
+        State::Idle => 0,
+        State::Preparing(_) => 1,
+        State::HalfPrepared(_) => 2,
+        State::Ready(_) => 3,
+        State::Gathering(_) => 4,
+        State::Together(_) => 5,
+        State::Alone(_) => 6,
+        State::HalfActivated(_) => 7,
+        State::Dead => 8,
+    }
+}
+
+fn row_at(i: usize) -> Row
+    requires { ⌜ i < states ⌝ }
+    ensures { λ r. ⌜ r ≡ rowAt i ⌝ }
+{
+    RULES[i]
+}
+
+// The row of a state.
+pub(crate) fn rule(s: State) -> Row
+    ensures { λ r. ⌜ r ≡ ruleOf s ⌝ }
+{
+    let i = place(s);
+    row_at(i)
+}

@@ -1,0 +1,173 @@
+// The rules: what each event calls for, by the board's record. Nothing is changed here.
+mod calls;
+mod cells;
+mod numbers;
+mod reports;
+
+ghost use mathlib.Core.Path.{_≡_};
+ghost use Rattle.rules.specs.Moves.{minusOf, numberOf, isCapable, isAlone};
+ghost use Rattle.rules.specs.Decide.{decideOf};
+use board::Board;
+use board_record::Record;
+use board_record::State;
+
+// A call: which CPU makes it, and its registers.
+pub struct Call {
+    pub cpu: u64,
+    pub x0: u64,
+    pub x1: u64,
+    pub x2: u64,
+    pub x3: u64,
+    pub x4: u64,
+}
+
+// The end of a job: of which component, and how it went.
+pub struct Report {
+    pub component: u64,
+    pub code: u64,
+}
+
+// An image that arrived: of which component, and its security version.
+pub struct Image {
+    pub component: u64,
+    pub version: u32,
+}
+
+// What can happen to a board.
+pub enum Event {
+    Call(Call),
+    Prime(Report),
+    Activate(Report),
+    Image(Image),
+}
+
+// Why an event is refused.
+pub enum Refusal {
+    NotWellFormed,
+    TableShort,
+    NoSuchCpu,
+    CpuOff,
+    CpuHeld,
+    NoSuchJob,
+    CodeNotAllowed,
+    NotCapable,
+    InHand,
+}
+
+// What a caller goes on with.
+pub struct Registers {
+    pub x0: u64,
+    pub x1: u64,
+    pub x2: u64,
+    pub x3: u64,
+}
+
+// A caller that becomes held: for which component, and where it may be resumed; both 0 where it can't be.
+pub struct Arrival {
+    pub component: u64,
+    pub cpu: u64,
+    pub entry: u64,
+    pub context: u64,
+}
+
+// A CPU that is switched on, and where it starts.
+pub struct Waking {
+    pub target: u64,
+    pub entry: u64,
+    pub context: u64,
+}
+
+// The kinds of thing that can happen, each with what it takes to do it.
+pub enum Move {
+    Refuse(Refusal),
+    Return(Registers),
+    NoteInfo,
+    StartPrime(Arrival),
+    Gather(Arrival),
+    StartTogether(Arrival),
+    StartAlone(Arrival),
+    Withdraw,
+    PowerOff(u64),
+    PowerOn(Waking),
+    EndPrime(Report),
+    EndActivate(Report),
+    Arrive(Image),
+}
+
+// The number of a refusal.
+pub fn number(r: Refusal) -> u64
+    ensures { λ n. ⌜ n ≡ numberOf r ⌝ }
+{
+    match r {
+        Refusal::NotWellFormed => 9,
+        Refusal::TableShort => 1,
+        Refusal::NoSuchCpu => 2,
+        Refusal::CpuOff => 3,
+        Refusal::CpuHeld => 4,
+        Refusal::NoSuchJob => 5,
+        Refusal::CodeNotAllowed => 6,
+        Refusal::NotCapable => 7,
+        Refusal::InHand => 8,
+    }
+}
+
+// The status -k as a register holds it; 0 is 0.
+pub fn minus(k: u64) -> u64
+    ensures { λ r. ⌜ r ≡ minusOf k ⌝ }
+{
+    if k == 0 {
+        0
+    } else {
+        0xffff_ffff_ffff_ffff - (k - 1)
+    }
+}
+
+// Whether the board has component id, and it is capable.
+fn is_capable(b: Board, id: u64) -> bool
+    ensures { λ r. ⌜ r ≡ isCapable b id ⌝ }
+{
+    if id < b.components {
+        let c = board::numbered(b, id);
+        return c.capable;
+    }
+    false
+}
+
+fn is_alone(s: State) -> bool
+    ensures { λ r. ⌜ r ≡ isAlone s ⌝ }
+{
+    match s {
+        State::Idle => false,
+        State::Preparing(_) => false,
+        State::HalfPrepared(_) => false,
+        State::Ready(_) => false,
+        State::Gathering(_) => false,
+        State::Together(_) => false,
+        State::Alone(_) => true,
+        State::HalfActivated(_) => false,
+        State::Dead => false,
+    }
+}
+
+// What an event calls for, where the two resume tables have these lengths.
+pub fn decide(rec: Record, e: Event, entries: usize, contexts: usize) -> Move
+    ensures { λ r. ⌜ r ≡ decideOf rec e entries contexts ⌝ }
+{
+    if board_record::is_well_formed(rec) {
+        let cpus = rec.board.cpus;
+        if (entries as u64) < cpus {
+            return Move::Refuse(Refusal::TableShort);
+        }
+        if (contexts as u64) < cpus {
+            return Move::Refuse(Refusal::TableShort);
+        }
+        match e {
+            Event::Call(call) => calls::call(rec, call),
+            Event::Prime(report) => reports::prime(rec, report),
+            Event::Activate(report) => reports::activate(rec, report),
+            Event::Image(image) => reports::image(rec, image),
+        }
+    } else {
+        Move::Refuse(Refusal::NotWellFormed)
+    }
+}

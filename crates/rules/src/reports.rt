@@ -1,0 +1,124 @@
+// The two reports, and images.
+use crate::Image;
+use crate::Move;
+use crate::Refusal;
+use crate::Report;
+use board_record::Record;
+use board_record::State;
+ghost use mathlib.Core.Path.{_≡_};
+ghost use Rattle.rules.specs.Reports.{isPriming, isActivating, primeAllows, resumesOf, activateAllows, primeReportOf, activateReportOf, imageOf};
+
+// A prime job is running for component id.
+fn is_priming(s: State, id: u64) -> bool
+    ensures { λ r. ⌜ r ≡ isPriming s id ⌝ }
+{
+    match s {
+        State::Idle => false,
+        State::Preparing(c) => c == id,
+        State::HalfPrepared(_) => false,
+        State::Ready(_) => false,
+        State::Gathering(_) => false,
+        State::Together(_) => false,
+        State::Alone(_) => false,
+        State::HalfActivated(_) => false,
+        State::Dead => false,
+    }
+}
+
+// An activate job is running for component id.
+fn is_activating(s: State, id: u64) -> bool
+    ensures { λ r. ⌜ r ≡ isActivating s id ⌝ }
+{
+    match s {
+        State::Idle => false,
+        State::Preparing(_) => false,
+        State::HalfPrepared(_) => false,
+        State::Ready(_) => false,
+        State::Gathering(_) => false,
+        State::Together(c) => c == id,
+        State::Alone(c) => c == id,
+        State::HalfActivated(_) => false,
+        State::Dead => false,
+    }
+}
+
+fn prime_allows(code: u64) -> bool
+    ensures { λ r. ⌜ r ≡ primeAllows code ⌝ }
+{
+    match code {
+        0 => true,
+        1 => true,
+        3 => true,
+        4 => true,
+        6 => true,
+        11 => true,
+        _ => false,
+    }
+}
+
+// In together with may_reset.
+fn resumes(alone: bool, reset: bool) -> bool
+    ensures { λ r. ⌜ r ≡ resumesOf alone reset ⌝ }
+{
+    if alone { false } else { reset }
+}
+
+fn activate_allows(alone: bool, reset: bool, code: u64) -> bool
+    ensures { λ r. ⌜ r ≡ activateAllows alone reset code ⌝ }
+{
+    match code {
+        0 => true,
+        1 => alone,
+        2 => true,
+        3 => true,
+        4 => true,
+        5 => true,
+        6 => true,
+        9 => true,
+        11 => true,
+        12 => resumes(alone, reset),
+        _ => false,
+    }
+}
+
+pub(crate) fn prime(rec: Record, report: Report) -> Move
+    ensures { λ r. ⌜ r ≡ primeReportOf rec report ⌝ }
+{
+    let s = rec.state;
+    if is_priming(s, report.component) {
+        if prime_allows(report.code) {
+            return Move::EndPrime(report);
+        }
+        return Move::Refuse(Refusal::CodeNotAllowed);
+    }
+    Move::Refuse(Refusal::NoSuchJob)
+}
+
+pub(crate) fn activate(rec: Record, report: Report) -> Move
+    ensures { λ r. ⌜ r ≡ activateReportOf rec report ⌝ }
+{
+    let s = rec.state;
+    let b = rec.board;
+    if is_activating(s, report.component) {
+        let c = board::numbered(b, report.component);
+        if activate_allows(crate::is_alone(s), c.may_reset, report.code) {
+            return Move::EndActivate(report);
+        }
+        return Move::Refuse(Refusal::CodeNotAllowed);
+    }
+    Move::Refuse(Refusal::NoSuchJob)
+}
+
+pub(crate) fn image(rec: Record, image: Image) -> Move
+    ensures { λ r. ⌜ r ≡ imageOf rec image ⌝ }
+{
+    let b = rec.board;
+    let s = rec.state;
+    if crate::is_capable(b, image.component) {
+        if board_record::is_for(s, image.component) {
+            return Move::Refuse(Refusal::InHand);
+        }
+        return Move::Arrive(image);
+    }
+    Move::Refuse(Refusal::NotCapable)
+}
