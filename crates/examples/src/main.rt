@@ -1,4 +1,6 @@
 // runs document 01's bench examples and writes what each gives
+mod runs;
+
 use board::Board;
 use board::Component;
 use board::Verdict;
@@ -36,20 +38,23 @@ fn entries() {
     entry(b"0x2000", 0x2000);
 }
 
-fn component(seed: u8) -> Component {
+const COUNTING: [u8; board::UUID_BYTES] = [0, 1, 2, 3, 4, 5, 6, 7, 8, 9, 10, 11, 12, 13, 14, 15];
+
+fn component(uuid: [u8; board::UUID_BYTES], capable: bool, svn: u32) -> Component {
     Component {
-        uuid: [seed; board::UUID_BYTES],
-        capable: true,
+        uuid: uuid,
+        capable: capable,
         may_reset: false,
         optional: false,
-        svn: 5,
+        svn: svn,
     }
 }
 
-// 2 components, 4 CPUs.
+// 2 components, 4 CPUs; the bytes of the first UUID are 00 to 0f.
 fn sample() -> Board {
-    let mut all = [component(0); board::MOST_COMPONENTS];
-    all[1] = component(1);
+    let mut all = [component([0; board::UUID_BYTES], false, 0); board::MOST_COMPONENTS];
+    all[0] = component(COUNTING, true, 5);
+    all[1] = component([1; board::UUID_BYTES], true, 5);
     Board {
         components: 2,
         cpus: 4,
@@ -107,4 +112,5 @@ fn main() {
     reading(&buf, 60);
     reading(&buf, 59);
     reading(&buf, 1);
+    runs::all();
 }

@@ -5,16 +5,20 @@ use mathlib.Core.Bool.{Bool, true, false, not, _&&_}
 use native.Mathlib.Omega.{arith}
 use lib.Dec.{eqb, leb, ltb}
 use borrow.Author.Tests.{leb-false, ltb-false, eqb-true, eqb-false, not-true, not-false}
-use Rattle.basics.specs.Choice.{pick, pick-cases, not-both, and-left, and-right}
+use Rattle.basics.specs.Choice.{pick, pick-cases, not-both, refuted, and-left, and-right}
 use Rattle.cpuset.specs.Set.{hasOf, onlyOf, withOf, sameOf}
+use Rattle.cpuset.specs.Laws.{same-is}
+use Rattle.cpuset.specs.declared.CpuSet.{CpuSet}
 use Rattle.board.specs.Description.{numberedOf, goodEntry}
-use Rattle.board_record.specs.Record.{subjectOf, isFor, goesAlone, isGathering, isPending, versionOf}
-use Rattle.board_record.specs.WellFormed.{wellFormed}
+use Rattle.board_record.specs.Record.{subjectOf, isFor, holdingOf, goesAlone, isGathering, isPending, versionOf}
+use Rattle.board_record.specs.WellFormed.{heldStand, wellFormed}
+use Rattle.board_record.proofs.Clauses.{told}
+use Rattle.board_record.specs.declared.Holding.the-variants.{All}
 use Rattle.board_record.specs.declared.Record.{Record}
 use Rattle.board_record.specs.declared.State.{State}
 use Rattle.board_record.specs.declared.State.the-variants.{Idle, Preparing, HalfPrepared, Ready, Gathering, Together, Alone, HalfActivated, Dead}
 use Rattle.board_record.specs.declared.Subject.the-variants as subject
-use Rattle.rules.specs.Moves.{minusOf, isCapable, isAlone}
+use Rattle.rules.specs.Moves.{minusOf, numberOf, isCapable, isAlone}
 use Rattle.rules.specs.Numbers.{versionNumber, cancelNumber, decodeOf}
 use Rattle.rules.specs.Table.{ruleOf}
 use Rattle.rules.specs.Calls.{returned, says, noCaller, featuresOf, infoOf, inventoryOf, arrivalOf, mayPrime, tryPrimeOf, trySameOf, primeBy, skips, skipRight, fieldsRight, entryRight, joinOf, tryActivateOf, activateBy, isOther, cancelBy, cancelOf, offFree, offBy, wakeBy, onOf, functionOf, answerBy, answerOf, callOf}
@@ -27,6 +31,8 @@ use Rattle.rules.specs.declared.Event.the-variants as event
 use Rattle.rules.specs.declared.Image.{Image}
 use Rattle.rules.specs.declared.Move.{Move}
 use Rattle.rules.specs.declared.Move.the-variants.{Refuse, Return, NoteInfo, StartPrime, Gather, StartTogether, StartAlone, Withdraw, PowerOff, PowerOn, EndPrime, EndActivate, Arrive}
+use Rattle.rules.specs.declared.Refusal.{Refusal}
+use Rattle.rules.specs.declared.Refusal.the-variants.{NotWellFormed}
 use Rattle.rules.specs.declared.Registers.{Registers}
 use Rattle.rules.specs.declared.Report.{Report}
 use Rattle.rules.specs.declared.Waking.{Waking}
@@ -40,6 +46,10 @@ use Rattle.rules.specs.declared.numbers.Decoded.{Decoded}
 use Rattle.rules.specs.declared.numbers.Decoded.the-variants.{Known, Unknown}
 
 -- ---- the facts
+
+-- refusal 9 is only for a record that is not well formed: in together no caller exists
+abbrev pub Refuses : Record → Refusal → Type 0
+Refuses r x = numberOf x ≡ 9 → wellFormed r ≡ false
 
 -- the event is a call from a CPU that exists, is on and is not held
 pub record Called (r : Record) (e : Event) : Type 0 where
@@ -170,7 +180,7 @@ pub record Arrives (r : Record) (e : Event) (i : Image) : Type 0 where
   pub other : isFor (r .state) (i .component) ≡ false
 
 abbrev pub Facts : Record → Event → Move → Type 0
-Facts r e (Refuse x) = Unit
+Facts r e (Refuse x) = Refuses r x
 Facts r e (Return x) = Returns r e x
 Facts r e NoteInfo = Called r e
 Facts r e (StartPrime a) = Primes r e a
@@ -195,6 +205,10 @@ made r e m f = f
 pub facts : (r : Record) (e : Event) (m : Move) → Guard r e m → Facts r e m
 unfolding Guard
 facts r e m g = g
+
+-- a refusal with another number
+other : (r : Record) (e : Event) (x : Refusal) → (numberOf x ≡ 9 → ⊥) → Guard r e (Refuse x)
+other r e x d = made r e (Refuse x) (λ q. absurd (d q))
 
 -- ---- calls
 
@@ -255,6 +269,29 @@ passed : (stop ok : Bool) → pick stop false ok ≡ true → (stop ≡ false) �
 passed true ok e = absurd (not-both refl (sym e))
 passed false ok e = (refl, e)
 
+-- the states in which no caller exists: all are held there
+activate-all : (s : State) → ruleOf s .activate ≡ activate.NoCaller → holdingOf s ≡ All
+activate-all Idle e = let z : _≡_ {A = ℕ} 0 1 = cc in absurd (omega arith)
+activate-all (Preparing c) e = let z : _≡_ {A = ℕ} 0 1 = cc in absurd (omega arith)
+activate-all (HalfPrepared c) e = let z : _≡_ {A = ℕ} 0 1 = cc in absurd (omega arith)
+activate-all (Ready c) e = let z : _≡_ {A = ℕ} 0 1 = cc in absurd (omega arith)
+activate-all (Gathering c) e = let z : _≡_ {A = ℕ} 0 1 = cc in absurd (omega arith)
+activate-all (Together c) e = refl
+activate-all (Alone c) e = let z : _≡_ {A = ℕ} 0 1 = cc in absurd (omega arith)
+activate-all (HalfActivated c) e = let z : _≡_ {A = ℕ} 0 1 = cc in absurd (omega arith)
+activate-all Dead e = let z : _≡_ {A = ℕ} 0 1 = cc in absurd (omega arith)
+
+power-all : (s : State) → ruleOf s .power ≡ power.NoCaller → holdingOf s ≡ All
+power-all Idle e = let z : _≡_ {A = ℕ} 0 1 = cc in absurd (omega arith)
+power-all (Preparing c) e = let z : _≡_ {A = ℕ} 0 1 = cc in absurd (omega arith)
+power-all (HalfPrepared c) e = let z : _≡_ {A = ℕ} 0 1 = cc in absurd (omega arith)
+power-all (Ready c) e = let z : _≡_ {A = ℕ} 0 1 = cc in absurd (omega arith)
+power-all (Gathering c) e = let z : _≡_ {A = ℕ} 0 1 = cc in absurd (omega arith)
+power-all (Together c) e = refl
+power-all (Alone c) e = let z : _≡_ {A = ℕ} 0 1 = cc in absurd (omega arith)
+power-all (HalfActivated c) e = let z : _≡_ {A = ℕ} 0 1 = cc in absurd (omega arith)
+power-all Dead e = let z : _≡_ {A = ℕ} 0 1 = cc in absurd (omega arith)
+
 -- an accepted call; all that follows is about what it asks for
 module _ (r : Record) (e : Event) (by : Called r e) where
   abbrev call : Call
@@ -262,6 +299,14 @@ module _ (r : Record) (e : Event) (by : Called r e) where
 
   in-state : (P : State → ℕ → Type 0) {s : State} → r .state ≡ s → P s (call .x1) → P (r .state) (call .x1)
   in-state P q = subst (λ s. P s (call .x1)) (sym q)
+
+  -- where all are held there is no caller
+  nobody-calls : holdingOf (r .state) ≡ All → Guard r e noCaller
+  unfolding heldStand
+  nobody-calls h =
+      made r e noCaller λ q. refuted (wellFormed r) λ w.
+      let all : sameOf (r .held) (r .on) ≡ true = rw h at (told r w .held) in
+      not-both (ap (λ (s : CpuSet). hasOf s (call .cpu)) (same-is (r .held) (r .on) all) ∙ by .powered) (by .free)
 
   -- it returns, and was no CANCEL
   plain : (d : Decoded) (x : Registers) → decodeOf (call .x0 % 2 ^ 32) ≡ d → asksCancel d ≡ false → Guard r e (Return x)
@@ -320,7 +365,7 @@ module _ (r : Record) (e : Event) (by : Called r e) where
       pick-cases (Guard r e) (isFor (r .state) (call .x1)) _ _ (λ t. try-prime a (in-state Primable q (eqb-true _ _ (sym (ap (λ (s : State). isFor s (call .x1)) q) ∙ t)))) (λ t. said _ _ a refl)
   prime-guard a (Ready c) q = said _ _ a refl
   prime-guard a (Gathering c) q = said _ _ a refl
-  prime-guard a (Together c) q = made r e noCaller tt
+  prime-guard a (Together c) q = nobody-calls (rw q)
   prime-guard a (Alone c) q = said _ _ a refl
   prime-guard a (HalfActivated c) q = said _ _ a refl
   prime-guard a Dead q = said _ _ a refl
@@ -390,7 +435,7 @@ module _ (r : Record) (e : Event) (by : Called r e) where
   activate-guard : Asks call function.Activate → (cell : ActivateCell) → ruleOf (r .state) .activate ≡ cell → Guard r e (activateBy cell r call)
   activate-guard a activate.Try q = try-activate a q
   activate-guard a (activate.Answers k) q = said _ _ a refl
-  activate-guard a activate.NoCaller q = made r e noCaller tt
+  activate-guard a activate.NoCaller q = nobody-calls (activate-all (r .state) q)
 
   -- a CANCEL that does not return 0
   denied : (k : ℕ) → (k ≡ 0 → ⊥) → k < 2 ^ 64 → Guard r e (says k)
@@ -411,7 +456,7 @@ module _ (r : Record) (e : Event) (by : Called r e) where
   cancel-cell a (HalfPrepared c) q o = withdraws a (in-state Cancellable q (eqb-true c (call .x1) (not-false _ o)))
   cancel-cell a (Ready c) q o = withdraws a (in-state Cancellable q (eqb-true c (call .x1) (not-false _ o)))
   cancel-cell a (Gathering c) q o = withdraws a (in-state Cancellable q (eqb-true c (call .x1) (not-false _ o)))
-  cancel-cell a (Together c) q o = made r e noCaller tt
+  cancel-cell a (Together c) q o = nobody-calls (rw q)
   cancel-cell a (Alone c) q o = denied 2 (λ z. omega arith) (omega arith)
   cancel-cell a (HalfActivated c) q o = withdraws a (in-state Cancellable q (eqb-true c (call .x1) (not-false _ o)))
   cancel-cell a Dead q o = nothing (rw q)
@@ -427,7 +472,7 @@ module _ (r : Record) (e : Event) (by : Called r e) where
       pick-cases (Guard r e) (sameOf (r .on) (onlyOf (call .cpu))) _ _ (λ t. said _ _ a refl)
       (λ t. made r e (PowerOff (call .cpu)) (record { by = by; asks = a; caller = refl; loose = q; others = t }))
   off-guard a power.Frozen q = said _ _ a refl
-  off-guard a power.NoCaller q = made r e noCaller tt
+  off-guard a power.NoCaller q = nobody-calls (power-all (r .state) q)
 
   wake-guard : Asks call function.CpuOn → call .x1 < r .board .cpus → goodEntry (r .board .first) (r .board .last) (call .x2) ≡ true
       → hasOf (r .on) (call .x1) ≡ false → (cell : PowerCell) → ruleOf (r .state) .power ≡ cell → Guard r e (wakeBy cell call)
@@ -442,7 +487,7 @@ module _ (r : Record) (e : Event) (by : Called r e) where
         loose = q;
       })
   wake-guard a l g o power.Frozen q = said _ _ a refl
-  wake-guard a l g o power.NoCaller q = made r e noCaller tt
+  wake-guard a l g o power.NoCaller q = nobody-calls (power-all (r .state) q)
 
   on-guard : Asks call function.CpuOn → Guard r e (onOf r call)
   unfolding onOf
@@ -474,11 +519,11 @@ module _ (r : Record) where
   unfolding callOf answerOf
   call-guard call =
       let e = event.Call call in
-      pick-cases (Guard r e) (leb (r .board .cpus) (call .cpu)) _ _ (λ t. made r e (Refuse _) tt)
+      pick-cases (Guard r e) (leb (r .board .cpus) (call .cpu)) _ _ (λ t. other r e _ (λ q. omega arith))
       (λ l. pick-cases (Guard r e) (hasOf (r .on) (call .cpu)) _ _
-      (λ p. pick-cases (Guard r e) (hasOf (r .held) (call .cpu)) _ _ (λ t. made r e (Refuse _) tt)
+      (λ p. pick-cases (Guard r e) (hasOf (r .held) (call .cpu)) _ _ (λ t. other r e _ (λ q. omega arith))
       (λ q. answer-guard r e (record { call = call; event = refl; exists = leb-false _ _ l; powered = p; free = q }) _ refl))
-      (λ p. made r e (Refuse _) tt))
+      (λ p. other r e _ (λ q. omega arith)))
 
   prime-report-guard : (p : Report) → Guard r (event.Prime p) (primeReportOf r p)
   unfolding primeReportOf
@@ -486,8 +531,8 @@ module _ (r : Record) where
       let e = event.Prime p in
       pick-cases (Guard r e) (isPriming (r .state) (p .component)) _ _
       (λ t. pick-cases (Guard r e) (primeAllows (p .code)) _ _
-      (λ u. made r e (EndPrime p) (record { event = refl; running = t; allowed = u })) (λ u. made r e (Refuse _) tt))
-      (λ t. made r e (Refuse _) tt)
+      (λ u. made r e (EndPrime p) (record { event = refl; running = t; allowed = u })) (λ u. other r e _ (λ q. omega arith)))
+      (λ t. other r e _ (λ q. omega arith))
 
   activate-report-guard : (p : Report) → Guard r (event.Activate p) (activateReportOf r p)
   unfolding activateReportOf
@@ -495,17 +540,17 @@ module _ (r : Record) where
       let e = event.Activate p in
       pick-cases (Guard r e) (isActivating (r .state) (p .component)) _ _
       (λ t. pick-cases (Guard r e) (activateAllows (isAlone (r .state)) (numberedOf (r .board) (p .component) .«may_reset») (p .code)) _ _
-      (λ u. made r e (EndActivate p) (record { event = refl; running = t; allowed = u })) (λ u. made r e (Refuse _) tt))
-      (λ t. made r e (Refuse _) tt)
+      (λ u. made r e (EndActivate p) (record { event = refl; running = t; allowed = u })) (λ u. other r e _ (λ q. omega arith)))
+      (λ t. other r e _ (λ q. omega arith))
 
   image-guard : (i : Image) → Guard r (event.Image i) (imageOf r i)
   unfolding imageOf
   image-guard i =
       let e = event.Image i in
       pick-cases (Guard r e) (isCapable (r .board) (i .component)) _ _
-      (λ t. pick-cases (Guard r e) (isFor (r .state) (i .component)) _ _ (λ u. made r e (Refuse _) tt)
+      (λ t. pick-cases (Guard r e) (isFor (r .state) (i .component)) _ _ (λ u. other r e _ (λ q. omega arith))
       (λ u. made r e (Arrive i) (record { event = refl; capable = t; other = u })))
-      (λ t. made r e (Refuse _) tt)
+      (λ t. other r e _ (λ q. omega arith))
 
   event-guard : (e : Event) → Guard r e (eventOf r e)
   event-guard (event.Call call) = call-guard call
@@ -518,6 +563,6 @@ pub decide-guard : (r : Record) (e : Event) (entries contexts : ℕ) → Guard r
 unfolding decideOf
 decide-guard r e entries contexts =
     pick-cases (Guard r e) (wellFormed r) _ _
-    (λ w. pick-cases (Guard r e) (ltb entries (r .board .cpus)) _ _ (λ t. made r e (Refuse _) tt)
-    (λ t. pick-cases (Guard r e) (ltb contexts (r .board .cpus)) _ _ (λ u. made r e (Refuse _) tt) (λ u. event-guard r e)))
-    (λ w. made r e (Refuse _) tt)
+    (λ w. pick-cases (Guard r e) (ltb entries (r .board .cpus)) _ _ (λ t. other r e _ (λ q. omega arith))
+    (λ t. pick-cases (Guard r e) (ltb contexts (r .board .cpus)) _ _ (λ u. other r e _ (λ q. omega arith)) (λ u. event-guard r e)))
+    (λ w. made r e (Refuse NotWellFormed) (λ q. w))

@@ -50,10 +50,10 @@ fn no_caller() -> Move
 fn features(x1: u64) -> Move
     ensures { λ r. ⌜ r ≡ featuresOf x1 ⌝ }
 {
-    if x1 < crate::numbers::VERSION {
+    if x1 < crate::VERSION {
         return say(1);
     }
-    if x1 > crate::numbers::CANCEL {
+    if x1 > crate::CANCEL {
         return say(1);
     }
     say(0)

@@ -1,25 +1,16 @@
-// The nine function numbers.
+// The function that a caller asks for.
+use crate::ACTIVATE;
+use crate::CANCEL;
+use crate::CPU_OFF;
+use crate::CPU_ON;
+use crate::FEATURES;
+use crate::GET_INFO;
+use crate::GET_INVENTORY;
+use crate::PRIME;
+use crate::VERSION;
 ghost use mathlib.Core.Path.{_≡_};
 ghost use Prim.Native.Nat.{_%_, _^_};
 ghost use Rattle.rules.specs.Numbers.{decodeOf};
-
-pub(crate) const VERSION: u64 = 0xC400_02E0;
-
-const FEATURES: u64 = 0xC400_02E1;
-
-const GET_INFO: u64 = 0xC400_02E2;
-
-const GET_INVENTORY: u64 = 0xC400_02E3;
-
-const PRIME: u64 = 0xC400_02E4;
-
-const ACTIVATE: u64 = 0xC400_02E5;
-
-pub(crate) const CANCEL: u64 = 0xC400_02E6;
-
-const CPU_OFF: u64 = 0x8400_0002;
-
-const CPU_ON: u64 = 0xC400_0003;
 
 // A function that a caller can ask for.
 pub enum Function {

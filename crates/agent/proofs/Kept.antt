@@ -1,0 +1,578 @@
+-- Every step keeps a well-formed record well formed, and a refused event changes nothing. Assumes nothing.
+use Prim.Native.Nat.{ℕ, _+_, _<_, _≤_}
+use mathlib.Core.Path.{_≡_, refl, sym, ap, subst, _∙_}
+use mathlib.Core.Bool.{Bool, true, false, not, _&&_, _||_, and-false, and-true, or-false, or-true}
+use mathlib.Core.List.{List}
+use mathlib.Core.Logic.{⊎-elim}
+use native.Mathlib.Omega.{arith}
+use lib.Dec.{eqb, leb, ltb}
+use lib.ListN.{length, getD, set, replicate, length-set, length-replicate}
+use lib.Seq.{getD-set-same, getD-set-other}
+use borrow.Author.Tests.{ltb-true, lt-ltb, le-leb, eq-eqb, ne-eqb, eqb-true, eqb-false}
+use Rattle.basics.specs.Choice.{pick, pick-cases, not-both, refuted, and-left, and-right, or-cases}
+use Rattle.basics.specs.Every.{all-at, all-of}
+use Rattle.cpuset.specs.Set.{Set, room, hasOf, noneOf, onlyOf, belowOf, withOf, withoutOf, sameOf, withinOf, countOf}
+use Rattle.cpuset.specs.Laws.{has-room, has-none, has-only, has-with, has-without, has-below, set-none, set-only, set-below, set-with, set-without, set-within, same-members, same-is, same-eq, none-has, within-has, within-of, count-none, count-with}
+use Rattle.cpuset.specs.declared.CpuSet.{CpuSet}
+use Rattle.board.specs.Description.{mostComponents, mostCpus, componentOf, numberedOf, goodEntry}
+use Rattle.board.specs.declared.Board.{Board}
+use Rattle.board.specs.declared.Component.{Component}
+use Rattle.board.proofs.Laws.{stands-counted}
+use Rattle.board_record.proofs.Laws.{room-most}
+use Rattle.board_record.specs.Record.{subjectOf, isAbout, isFor, holdingOf, goesAlone, isPending, versionOf}
+use Rattle.board_record.specs.WellFormed.{poweredStand, imageStands, imageAt, imagesStand, subjectStands, standsBy, stateStands, heldBy, heldStand, mayReset, keepsEntries, keptOf, entryStands, entryAt, entriesStand, wellFormed}
+use Rattle.board_record.proofs.Clauses.{WellFormed, Sized, told, shown, powered-within, powered-set, powered-below, held-within, entries-zero}
+use Rattle.board_record.specs.declared.Record.{Record}
+use Rattle.board_record.specs.declared.State.{State}
+use Rattle.board_record.specs.declared.State.the-variants.{Idle, Preparing, HalfPrepared, Ready, Gathering, Together, Alone, HalfActivated, Dead}
+use Rattle.board_record.specs.declared.Holding.the-variants.{Nobody, One, Part, All}
+use Rattle.board_record.specs.declared.Subject.{Subject}
+use Rattle.board_record.specs.declared.Subject.the-variants as subject
+use Rattle.rules.specs.declared.Arrival.{Arrival}
+use Rattle.rules.specs.declared.Event.{Event}
+use Rattle.rules.specs.declared.Move.{Move}
+use Rattle.rules.specs.declared.Move.the-variants as move
+use Rattle.rules.specs.Decide.{decideOf}
+use Rattle.rules.specs.declared.Image.{Image}
+use Rattle.rules.specs.Moves.{isCapable, isAlone}
+use Rattle.rules.specs.Calls.{arrivalOf, entryRight}
+use Rattle.rules.specs.declared.Report.{Report}
+use Rattle.rules.specs.declared.Waking.{Waking}
+use Rattle.rules.specs.declared.cells.PowerCell.the-variants as power
+use Rattle.rules.specs.Table.{ruleOf}
+use Rattle.rules.specs.Reports.{isPriming, isActivating, activateAllows}
+use Rattle.rules.proofs.Guards.{Primable, Gatherable, Skippable, Primes, Skips, Joins, TurnsOff, TurnsOn, EndsPrime, EndsActivate, Arrives, Facts, facts, decide-guard}
+use Rattle.agent.specs.Perform.{refusedOf, acceptedOf, informedOf, joinedOf, settledOf, poweredOf, afterPrime, afterActivate, isDone, forgottenOf, endedOf, arrivedOf, performOf}
+use Rattle.agent.specs.Step.{stepOf}
+
+-- ---- sets
+
+-- a caller joins
+has-joined : (s : CpuSet) (i : ℕ) → i < room → hasOf (withOf s i) i ≡ true
+has-joined s i l = rw (has-with, lt-ltb i room l, eq-eqb i i refl) (or-true (hasOf s i))
+
+has-others : (s : CpuSet) (i j : ℕ) → (j ≡ i → ⊥) → hasOf (withOf s i) j ≡ hasOf s j
+has-others s i j d = rw (has-with, ne-eqb i j (λ e. d (sym e)), and-false (ltb i room)) (or-false (hasOf s j))
+
+same-cases : {C : Type 0} (i j : ℕ) → (j ≡ i → C) → ((j ≡ i → ⊥) → C) → C
+same-cases {C} i j f g = go (eqb j i) refl
+  where
+    go : (t : Bool) → eqb j i ≡ t → C
+    go true e = f (eqb-true j i e)
+    go false e = g (eqb-false j i e)
+
+-- if it is powered, all that are held are powered still
+with-within : (held on : CpuSet) (i : ℕ) → Set on → withinOf held on ≡ true → hasOf on i ≡ true → withinOf (withOf held i) on ≡ true
+with-within held on i s w h =
+    within-of (withOf held i) on (set-with held i (set-within held on s w)) λ j l p.
+    same-cases i j (λ e. ap (hasOf on) e ∙ h) (λ d. within-has held on w j (sym (has-others held i j d) ∙ p))
+
+-- the one that is held alone
+one-held : (on : CpuSet) (i : ℕ) → Set on → hasOf on i ≡ true → withinOf noneOf on ≡ true
+    → (withinOf (withOf noneOf i) on && eqb (countOf (withOf noneOf i)) 1) ≡ true
+one-held on i s h w =
+    rw (with-within noneOf on i s w h, count-with noneOf i (has-room on i h) (has-none i), count-none)
+
+-- with a caller there is somebody
+none-false : (held : CpuSet) (i : ℕ) → i < room → sameOf (withOf held i) noneOf ≡ false
+none-false held i l = refuted (sameOf (withOf held i) noneOf) (λ e. not-both (has-joined held i l) (none-has (withOf held i) e i))
+
+-- without a CPU that is not the only one there is still somebody
+without-some : (s : CpuSet) (i : ℕ) → Set s → hasOf s i ≡ true → sameOf s (onlyOf i) ≡ false → sameOf (withoutOf s i) noneOf ≡ false
+without-some s i p h o =
+    refuted (sameOf (withoutOf s i) noneOf) λ e. not-both (same-eq s (onlyOf i) (same-members s (onlyOf i) p (set-only i) λ j l. same-cases i j (self e j) (far e j))) o
+  where
+    self : sameOf (withoutOf s i) noneOf ≡ true → (j : ℕ) → j ≡ i → hasOf s j ≡ hasOf (onlyOf i) j
+    self e j q = rw (q, h, has-only i i, lt-ltb i room (has-room s i h), eq-eqb i i refl)
+
+    far : sameOf (withoutOf s i) noneOf ≡ true → (j : ℕ) → (j ≡ i → ⊥) → hasOf s j ≡ hasOf (onlyOf i) j
+    far e j d =
+        let o : eqb i j ≡ false = ne-eqb i j (λ q. d (sym q)) in
+        let gone : (hasOf s j && not (ltb i room && eqb i j)) ≡ false = sym (has-without s i j) ∙ none-has (withoutOf s i) e j in
+        let h : hasOf s j ≡ false = rw (o, and-false (ltb i room), and-true (hasOf s j)) at gone in
+        rw (has-only i j, o, and-false (ltb i room)) h
+
+other : (i j : ℕ) → (j ≡ i → ⊥) → eqb i j ≡ false
+other i j d = ne-eqb i j (λ q. d (sym q))
+
+-- ---- the tables of the held CPUs
+
+-- with may_reset those that are kept are those that are held, and the caller; without it nobody is
+joined-others : (reset : Bool) (held : CpuSet) (i j : ℕ) → (j ≡ i → ⊥) → hasOf (pick reset (withOf held i) noneOf) j ≡ hasOf (pick reset held noneOf) j
+joined-others true held i j d = has-others held i j d
+joined-others false held i j d = refl
+
+joined-entry : (reset : Bool) (first last : ℕ) (held : CpuSet) (i entry context : ℕ) → i < room → pick reset (goodEntry first last entry) true ≡ true
+    → entryStands first last (hasOf (pick reset (withOf held i) noneOf) i) (pick reset entry 0) (pick reset context 0) ≡ true
+unfolding entryStands
+joined-entry true first last held i entry context l g = rw (has-joined held i l) g
+joined-entry false first last held i entry context l g = rw (has-none i)
+
+-- a place written, and every other place as it was
+entries-put : (first last : ℕ) (kept kept′ : CpuSet) (entry context : List ℕ) (i v w : ℕ)
+    → length entry ≡ mostCpus → length context ≡ mostCpus
+    → ((j : ℕ) → (j ≡ i → ⊥) → hasOf kept′ j ≡ hasOf kept j) → entryStands first last (hasOf kept′ i) v w ≡ true
+    → entriesStand first last kept entry context ≡ true → entriesStand first last kept′ (set entry i v) (set context i w) ≡ true
+unfolding entriesStand
+entries-put first last kept kept′ entry context i v w a b others here before =
+    all-of mostCpus _ λ j l. same-cases i j (at j l) (λ d. rw (others j d, getD-set-other entry i j v 0 d, getD-set-other context i j w 0 d) (all-at mostCpus _ before j l))
+  where
+    at : (j : ℕ) → j < mostCpus → j ≡ i → entryAt first last kept′ (set entry i v) (set context i w) j ≡ true
+    at j l e = rw (e, getD-set-same entry i v 0 (omega arith), getD-set-same context i w 0 (omega arith)) here
+
+-- ---- the tables of the images
+images-put : (b : Board) (pending : List Bool) (version : List ℕ) (i : ℕ) (now : Bool) (v : ℕ)
+    → length pending ≡ mostComponents → length version ≡ mostComponents
+    → imageStands (ltb i (b .components)) (componentOf b i .capable) now v ≡ true
+    → imagesStand b pending version ≡ true → imagesStand b (set pending i now) (set version i v) ≡ true
+unfolding imagesStand
+images-put b pending version i now v a c here before =
+    all-of mostComponents _ λ j l. same-cases i j (at j l)
+    (λ d. rw (getD-set-other pending i j now false d, getD-set-other version i j v 0 d) (all-at mostComponents _ before j l))
+  where
+    at : (j : ℕ) → j < mostComponents → j ≡ i → imageAt b (set pending i now) (set version i v) j ≡ true
+    at j l e = rw (e, getD-set-same pending i now false (omega arith), getD-set-same version i v 0 (omega arith)) here
+
+-- an image of another component leaves the state's as it was
+other-image : (b : Board) (pending : List Bool) (version : List ℕ) (alone : Bool) (s : Subject) (i : ℕ) (now : Bool) (v : ℕ) → isAbout s i ≡ false
+    → standsBy b pending version alone s ≡ true → standsBy b (set pending i now) (set version i v) alone s ≡ true
+other-image b pending version alone subject.Nothing i now v o e = refl
+other-image b pending version alone (subject.Component c) i now v o e =
+    let d = eqb-false c i o in rw (getD-set-other pending i c now false d, getD-set-other version i c v 0 d) e
+
+-- ---- states
+
+-- who holds nobody keeps no entries
+resting : (b : Board) (s : State) → holdingOf s ≡ Nobody → keepsEntries b s ≡ false
+resting b Idle h = refl
+resting b (Preparing c) h = refl
+resting b (HalfPrepared c) h = refl
+resting b (Ready c) h = refl
+resting b (Gathering c) h = let z : _≡_ {A = ℕ} 0 1 = cc in absurd (omega arith)
+resting b (Together c) h = let z : _≡_ {A = ℕ} 0 1 = cc in absurd (omega arith)
+resting b (Alone c) h = refl
+resting b (HalfActivated c) h = refl
+resting b Dead h = refl
+
+prime-rests : (s : State) (id : ℕ) → Primable s id → holdingOf s ≡ Nobody
+prime-rests Idle id p = refl
+prime-rests (Preparing c) id p = absurd p
+prime-rests (HalfPrepared c) id p = refl
+prime-rests (Ready c) id p = absurd p
+prime-rests (Gathering c) id p = absurd p
+prime-rests (Together c) id p = absurd p
+prime-rests (Alone c) id p = absurd p
+prime-rests (HalfActivated c) id p = absurd p
+prime-rests Dead id p = absurd p
+
+skip-rests : (s : State) (id : ℕ) → Skippable s id → (holdingOf s ≡ Nobody) × (subjectOf s ≡ subject.Component id)
+skip-rests Idle id p = absurd p
+skip-rests (Preparing c) id p = absurd p
+skip-rests (HalfPrepared c) id p = absurd p
+skip-rests (Ready c) id p = (refl, rw p)
+skip-rests (Gathering c) id p = absurd p
+skip-rests (Together c) id p = absurd p
+skip-rests (Alone c) id p = absurd p
+skip-rests (HalfActivated c) id p = (refl, rw p)
+skip-rests Dead id p = absurd p
+
+gather-subject : (s : State) (id : ℕ) → Gatherable s id → subjectOf s ≡ subject.Component id
+gather-subject Idle id p = absurd p
+gather-subject (Preparing c) id p = absurd p
+gather-subject (HalfPrepared c) id p = absurd p
+gather-subject (Ready c) id p = rw p
+gather-subject (Gathering c) id p = rw p
+gather-subject (Together c) id p = absurd p
+gather-subject (Alone c) id p = absurd p
+gather-subject (HalfActivated c) id p = absurd p
+gather-subject Dead id p = absurd p
+
+-- those that gathered with may_reset are those that are held
+gather-kept : (b : Board) (s : State) (id : ℕ) (on held : CpuSet) → Gatherable s id → heldStand s on held ≡ true
+    → keptOf b s held ≡ pick (mayReset b id) held noneOf
+unfolding heldStand
+gather-kept b Idle id on held p h = absurd p
+gather-kept b (Preparing c) id on held p h = absurd p
+gather-kept b (HalfPrepared c) id on held p h = absurd p
+gather-kept b (Ready c) id on held p h = rw (same-is held noneOf h) (either (mayReset b id))
+  where
+    either : (t : Bool) → noneOf ≡ pick t noneOf noneOf
+    either true = refl
+    either false = refl
+gather-kept b (Gathering c) id on held p h = rw p
+gather-kept b (Together c) id on held p h = absurd p
+gather-kept b (Alone c) id on held p h = absurd p
+gather-kept b (HalfActivated c) id on held p h = absurd p
+gather-kept b Dead id on held p h = absurd p
+
+priming-is : (s : State) (id : ℕ) → isPriming s id ≡ true → subjectOf s ≡ subject.Component id
+priming-is Idle id p = absurd (not-both p refl)
+priming-is (Preparing c) id p = ap subject.Component (eqb-true c id p)
+priming-is (HalfPrepared c) id p = absurd (not-both p refl)
+priming-is (Ready c) id p = absurd (not-both p refl)
+priming-is (Gathering c) id p = absurd (not-both p refl)
+priming-is (Together c) id p = absurd (not-both p refl)
+priming-is (Alone c) id p = absurd (not-both p refl)
+priming-is (HalfActivated c) id p = absurd (not-both p refl)
+priming-is Dead id p = absurd (not-both p refl)
+
+activating-is : (s : State) (id : ℕ) → isActivating s id ≡ true → (subjectOf s ≡ subject.Component id) × (goesAlone s ≡ isAlone s)
+activating-is Idle id p = absurd (not-both p refl)
+activating-is (Preparing c) id p = absurd (not-both p refl)
+activating-is (HalfPrepared c) id p = absurd (not-both p refl)
+activating-is (Ready c) id p = absurd (not-both p refl)
+activating-is (Gathering c) id p = absurd (not-both p refl)
+activating-is (Together c) id p = (ap subject.Component (eqb-true c id p), refl)
+activating-is (Alone c) id p = (ap subject.Component (eqb-true c id p), refl)
+activating-is (HalfActivated c) id p = absurd (not-both p refl)
+activating-is Dead id p = absurd (not-both p refl)
+
+-- what the state's component is, whatever the state
+subject-told : (b : Board) (pending : List Bool) (version : List ℕ) (s : State) (c : ℕ)
+    → stateStands b pending version s ≡ true → subjectOf s ≡ subject.Component c
+    → subjectStands (numberedOf b c) (goesAlone s) (isPending pending c) (versionOf version c) ≡ true
+unfolding stateStands
+subject-told b pending version s c e q = rw q at e
+
+subject-calm : (c : Component) (alone pending : Bool) (version : ℕ) → subjectStands c alone pending version ≡ true → subjectStands c false pending version ≡ true
+unfolding subjectStands
+subject-calm c alone pending version e =
+    let p = and-left pending _ e in
+    let q = and-left (leb (c .svn) version) _ (and-right pending _ e) in
+    rw (p, q)
+
+subject-alone : (c : Component) (alone pending : Bool) (version : ℕ) → subjectStands c alone pending version ≡ true → c .optional ≡ true
+    → subjectStands c true pending version ≡ true
+unfolding subjectStands
+subject-alone c alone pending version e o =
+    let p = and-left pending _ e in
+    let q = and-left (leb (c .svn) version) _ (and-right pending _ e) in
+    rw (p, q, o)
+
+subject-optional : (c : Component) (alone pending : Bool) (version : ℕ) → subjectStands c alone pending version ≡ true → alone ≡ true → c .optional ≡ true
+unfolding subjectStands
+subject-optional c alone pending version e a =
+    let h : pick alone (c .optional) true ≡ true = and-right (leb (c .svn) version) _ (and-right pending _ e) in rw a at h
+
+-- where power calls are free, at most one CPU is held
+loose-held : (s : State) (on on′ held : CpuSet) → ruleOf s .power ≡ power.Free → heldStand s on held ≡ true → withinOf held on′ ≡ true → heldStand s on′ held ≡ true
+unfolding heldStand
+loose-held Idle on on′ held f h w = h
+loose-held (Preparing c) on on′ held f h w = rw w (and-right (withinOf held on) (eqb (countOf held) 1) h)
+loose-held (HalfPrepared c) on on′ held f h w = h
+loose-held (Ready c) on on′ held f h w = h
+loose-held (Gathering c) on on′ held f h w = let z : _≡_ {A = ℕ} 0 1 = cc in absurd (omega arith)
+loose-held (Together c) on on′ held f h w = let z : _≡_ {A = ℕ} 0 1 = cc in absurd (omega arith)
+loose-held (Alone c) on on′ held f h w = let z : _≡_ {A = ℕ} 0 1 = cc in absurd (omega arith)
+loose-held (HalfActivated c) on on′ held f h w = let z : _≡_ {A = ℕ} 0 1 = cc in absurd (omega arith)
+loose-held Dead on on′ held f h w = h
+
+-- ---- each move
+module _ (r : Record) (w : WellFormed r) (z : Sized r) where
+  on-set : Set (r .on)
+  on-set = powered-set (r .board .cpus) (r .on) (w .powered)
+
+  held-on : withinOf (r .held) (r .on) ≡ true
+  held-on = held-within (r .state) (r .on) (r .held) on-set (w .held)
+
+  -- what the state's component is
+  mine : (c : ℕ) → subjectOf (r .state) ≡ subject.Component c
+      → subjectStands (numberedOf (r .board) c) (goesAlone (r .state)) (isPending (r .pending) c) (versionOf (r .version) c) ≡ true
+  mine c q = subject-told (r .board) (r .pending) (r .version) (r .state) c (w .state) q
+
+  calm : (c : ℕ) → subjectOf (r .state) ≡ subject.Component c
+      → subjectStands (numberedOf (r .board) c) false (isPending (r .pending) c) (versionOf (r .version) c) ≡ true
+  calm c q = subject-calm (numberedOf (r .board) c) (goesAlone (r .state)) _ _ (mine c q)
+
+  -- in a state that holds nobody
+  nobody : holdingOf (r .state) ≡ Nobody → r .held ≡ noneOf
+  unfolding heldStand
+  nobody h = same-is (r .held) noneOf (rw h at (w .held))
+
+  -- a caller joins: what has to be seen of the next state
+  join-kept : (s : State) (a : Arrival) → stateStands (r .board) (r .pending) (r .version) s ≡ true
+      → heldStand s (r .on) (withOf (r .held) (a .cpu)) ≡ true
+      → ((j : ℕ) → (j ≡ a .cpu → ⊥) → hasOf (keptOf (r .board) s (withOf (r .held) (a .cpu))) j ≡ hasOf (keptOf (r .board) (r .state) (r .held)) j)
+      → entryStands (r .board .first) (r .board .last) (hasOf (keptOf (r .board) s (withOf (r .held) (a .cpu))) (a .cpu)) (a .entry) (a .context) ≡ true
+      → WellFormed (joinedOf r s a)
+  unfolding joinedOf
+  join-kept s a state held others here = record {
+    board = w .board;
+    powered = w .powered;
+    images = w .images;
+    state = state;
+    held = held;
+    entries = entries-put _ _ (keptOf (r .board) (r .state) (r .held)) _ (r .entry) (r .context) (a .cpu) (a .entry) (a .context) (z .entry) (z .context) others here (w .entries);
+  }
+
+  -- one that is held alone, from a state that held nobody to one that keeps no entries
+  alone-kept : (s : State) (a : Arrival) → holdingOf (r .state) ≡ Nobody → hasOf (r .on) (a .cpu) ≡ true
+      → stateStands (r .board) (r .pending) (r .version) s ≡ true → holdingOf s ≡ One → keepsEntries (r .board) s ≡ false
+      → a .entry ≡ 0 → a .context ≡ 0 → WellFormed (joinedOf r s a)
+  unfolding heldStand entryStands
+  alone-kept s a h p state one none e c =
+      join-kept s a state
+      (rw (one, nobody h) (one-held (r .on) (a .cpu) on-set p (rw (nobody h) at held-on)))
+      (λ j d. rw (none, resting (r .board) (r .state) h))
+      (rw (none, has-none (a .cpu), e, c))
+
+  prime-kept : (e : Event) (a : Arrival) → Primes r e a → WellFormed (joinedOf r (Preparing (a .component)) a)
+  unfolding arrivalOf stateStands subjectStands
+  prime-kept e a g =
+      let call = g .by .call in
+      subst (λ (x : Arrival). WellFormed (joinedOf r (Preparing (x .component)) x)) (sym (g .arrival))
+      (alone-kept (Preparing (call .x1)) (arrivalOf call false) (prime-rests (r .state) (call .x1) (g .state)) (g .by .powered)
+      (rw (g .pending, le-leb _ _ (g .enough))) refl refl refl refl)
+
+  skip-kept : (e : Event) (a : Arrival) → Skips r e a → WellFormed (joinedOf r (Alone (a .component)) a)
+  unfolding arrivalOf stateStands
+  skip-kept e a g =
+      let call = g .by .call in
+      let rests = skip-rests (r .state) (call .x1) (g .state) in
+      subst (λ (x : Arrival). WellFormed (joinedOf r (Alone (x .component)) x)) (sym (g .arrival))
+      (alone-kept (Alone (call .x1)) (arrivalOf call false) (rests .0) (g .by .powered)
+      (subject-alone (numberedOf (r .board) (call .x1)) (goesAlone (r .state)) _ _ (mine (call .x1) (rests .1)) (g .optional)) refl refl refl refl)
+
+  -- one more gathers, to a state of the same component that keeps its entries too
+  gathered : (e : Event) (a : Arrival) (all : Bool) (g : Joins r e a all) (s : State)
+      → keepsEntries (r .board) s ≡ mayReset (r .board) (g .by .call .x1) → stateStands (r .board) (r .pending) (r .version) s ≡ true
+      → heldStand s (r .on) (withOf (r .held) (g .by .call .cpu)) ≡ true → WellFormed (joinedOf r s a)
+  unfolding arrivalOf entryRight
+  gathered e a all g s keeps state held =
+      let call = g .by .call in
+      let reset = mayReset (r .board) (call .x1) in
+      subst (λ (x : Arrival). WellFormed (joinedOf r s x)) (sym (g .arrival))
+      (join-kept s (arrivalOf call reset) state held
+      (λ j d. rw (keeps, gather-kept (r .board) (r .state) (call .x1) (r .on) (r .held) (g .state) (w .held)) (joined-others reset (r .held) (call .cpu) j d))
+      (rw keeps (joined-entry reset (r .board .first) (r .board .last) (r .held) (call .cpu) (call .x3) (call .x4) (has-room (r .on) (call .cpu) (g .by .powered)) (g .entry))))
+
+  gather-kept-all : (e : Event) (a : Arrival) → Joins r e a false → WellFormed (joinedOf r (Gathering (a .component)) a)
+  unfolding arrivalOf stateStands heldStand
+  gather-kept-all e a g =
+      let call = g .by .call in
+      let some = sym (none-false (r .held) (call .cpu) (has-room (r .on) (call .cpu) (g .by .powered))) in
+      let id = ap (λ (x : Arrival). x .component) (g .arrival) in
+      subst (λ (c : ℕ). WellFormed (joinedOf r (Gathering c) a)) (sym id)
+      (gathered e a false g (Gathering (call .x1)) refl (calm (call .x1) (gather-subject (r .state) (call .x1) (g .state)))
+      (rw (← some, g .present) (with-within (r .held) (r .on) (call .cpu) on-set held-on (g .by .powered))))
+
+  together-kept : (e : Event) (a : Arrival) → Joins r e a true → WellFormed (joinedOf r (Together (a .component)) a)
+  unfolding arrivalOf stateStands heldStand
+  together-kept e a g =
+      let call = g .by .call in
+      let id = ap (λ (x : Arrival). x .component) (g .arrival) in
+      subst (λ (c : ℕ). WellFormed (joinedOf r (Together c) a)) (sym id)
+      (gathered e a true g (Together (call .x1)) refl (calm (call .x1) (gather-subject (r .state) (call .x1) (g .state))) (g .present))
+
+  -- the held CPUs are released
+  settled-kept : (s : State) → stateStands (r .board) (r .pending) (r .version) s ≡ true → holdingOf s ≡ Nobody → WellFormed (settledOf r s)
+  unfolding settledOf heldStand
+  settled-kept s state none = record {
+    board = w .board;
+    powered = w .powered;
+    images = w .images;
+    state = state;
+    held = rw none (same-eq noneOf noneOf refl);
+    entries = rw (resting (r .board) s none) (entries-zero (r .board .first) (r .board .last));
+  }
+
+  withdraw-kept : WellFormed (settledOf r Idle)
+  unfolding stateStands
+  withdraw-kept = settled-kept Idle refl refl
+
+  end-prime-kept : (e : Event) (p : Report) → EndsPrime r e p → WellFormed (settledOf r (afterPrime p))
+  unfolding afterPrime stateStands
+  end-prime-kept e p g =
+      let same = calm (p .component) (priming-is (r .state) (p .component) (g .running)) in
+      pick-cases (λ (s : State). WellFormed (settledOf r s)) (eqb (p .code) 0) _ _ (λ t. settled-kept (Ready (p .component)) same refl)
+      (λ t. pick-cases (λ (s : State). WellFormed (settledOf r s)) (eqb (p .code) 1) _ _
+      (λ u. settled-kept (HalfPrepared (p .component)) same refl) (λ u. settled-kept Idle refl refl))
+
+  -- other CPUs are powered, in a state whose power calls are free
+  powered-kept : (on : CpuSet) → ruleOf (r .state) .power ≡ power.Free → poweredStand (r .board .cpus) on ≡ true → withinOf (r .held) on ≡ true → WellFormed (poweredOf r on)
+  unfolding poweredOf
+  powered-kept on free p h = record {
+    board = w .board;
+    powered = p;
+    images = w .images;
+    state = w .state;
+    held = loose-held (r .state) (r .on) on (r .held) free (w .held) h;
+    entries = w .entries;
+  }
+
+  off-kept : (e : Event) (cpu : ℕ) → TurnsOff r e cpu → WellFormed (poweredOf r (withoutOf (r .on) cpu))
+  unfolding poweredStand
+  off-kept e cpu g =
+      let on = r .on in
+      let free : hasOf (r .held) cpu ≡ false = ap (hasOf (r .held)) (g .caller) ∙ g .by .free in
+      let below = belowOf (r .board .cpus) in
+      powered-kept (withoutOf on cpu) (g .loose)
+      (rw (without-some on cpu on-set (ap (hasOf on) (g .caller) ∙ g .by .powered) (g .others))
+      (within-of (withoutOf on cpu) below (set-without on cpu on-set)
+      (λ j l p. within-has on below (powered-within (r .board .cpus) on (w .powered)) j (and-left (hasOf on j) _ (sym (has-without on cpu j) ∙ p)))))
+      (within-of (r .held) (withoutOf on cpu) (set-within (r .held) on on-set held-on)
+      (λ j l p. rw (has-without on cpu j, within-has (r .held) on held-on j p, other cpu j (λ q. not-both p (ap (hasOf (r .held)) q ∙ free)), and-false (ltb cpu room))))
+
+  on-kept : (e : Event) (x : Waking) → TurnsOn r e x → WellFormed (poweredOf r (withOf (r .on) (x .target)))
+  unfolding poweredStand
+  on-kept e x g =
+      let on = r .on in
+      let i = x .target in
+      let below = belowOf (r .board .cpus) in
+      let fits : i < room = omega (arith, g .exists, stands-counted (r .board) (w .board) .fewCpus, room-most) in
+      powered-kept (withOf on i) (g .loose)
+      (rw (none-false on i fits)
+      (with-within on below i (set-below (r .board .cpus)) (powered-within (r .board .cpus) on (w .powered))
+      (rw (has-below (r .board .cpus) i, lt-ltb i room fits) (lt-ltb i (r .board .cpus) (g .exists)))))
+      (within-of (r .held) (withOf on i) (set-within (r .held) on on-set held-on)
+      (λ j l p. rw (has-with on i j, within-has (r .held) on held-on j p)))
+
+  -- only an optional component is called again
+  again-optional : (e : Event) (p : Report) → EndsActivate r e p → p .code ≡ 1 → numberedOf (r .board) (p .component) .optional ≡ true
+  unfolding activateAllows
+  again-optional e p g q =
+      let c = numberedOf (r .board) (p .component) in
+      let is = activating-is (r .state) (p .component) (g .running) in
+      let alone : isAlone (r .state) ≡ true = sym (ap (activateAllows (isAlone (r .state)) (c .«may_reset»)) q) ∙ g .allowed in
+      subject-optional c (goesAlone (r .state)) _ _ (mine (p .component) (is .0)) (is .1 ∙ alone)
+
+  -- an activation ended: the state
+  ended-state : (e : Event) (p : Report) → EndsActivate r e p → WellFormed (settledOf r (afterActivate p))
+  unfolding afterActivate stateStands
+  ended-state e p g =
+      let c = p .component in
+      let is = activating-is (r .state) c (g .running) in
+      pick-cases (λ (s : State). WellFormed (settledOf r s)) (eqb (p .code) 1) _ _
+      (λ t. settled-kept (HalfActivated c)
+      (subject-alone (numberedOf (r .board) c) (goesAlone (r .state)) _ _ (mine c (is .0)) (again-optional e p g (eqb-true (p .code) 1 t))) refl)
+      (λ t. pick-cases (λ (s : State). WellFormed (settledOf r s)) (eqb (p .code) 2) _ _ (λ u. settled-kept (Ready c) (calm c (is .0)) refl)
+      (λ u. pick-cases (λ (s : State). WellFormed (settledOf r s)) (eqb (p .code) 5) _ _ (λ v. settled-kept Dead refl refl) (λ v. settled-kept Idle refl refl)))
+
+-- a done activation: its image is pending no more
+forgotten-kept : (r : Record) → WellFormed r → Sized r → subjectOf (r .state) ≡ subject.Nothing → (id : ℕ) → WellFormed (forgottenOf r id)
+unfolding forgottenOf imageStands stateStands
+forgotten-kept r w z none id = record {
+  board = w .board;
+  powered = w .powered;
+  images = images-put (r .board) (r .pending) (r .version) id false 0 (z .pending) (z .version) refl (w .images);
+  state = rw none;
+  held = w .held;
+  entries = w .entries;
+}
+
+arrived-kept : (r : Record) (e : Event) (i : Image) → WellFormed r → Sized r → Arrives r e i → WellFormed (arrivedOf r i)
+unfolding arrivedOf imageStands isCapable stateStands numberedOf
+arrived-kept r e i w z g =
+    let id = i .component in
+    let exists = and-left (ltb id (r .board .components)) (numberedOf (r .board) id .capable) (g .capable) in
+    let able = and-right (ltb id (r .board .components)) (numberedOf (r .board) id .capable) (g .capable) in
+    let few = stands-counted (r .board) (w .board) .fewComponents in
+    let l : id < mostComponents = omega (arith, ltb-true id (r .board .components) exists) in
+    let known : componentOf (r .board) id .capable ≡ true = rw (lt-ltb id mostComponents l) at able in
+    record {
+      board = w .board;
+      powered = w .powered;
+      images = images-put (r .board) (r .pending) (r .version) id true (i .version) (z .pending) (z .version) (rw (exists, known)) (w .images);
+      state = other-image (r .board) (r .pending) (r .version) (goesAlone (r .state)) (subjectOf (r .state)) id true (i .version) (g .other) (w .state);
+      held = w .held;
+      entries = w .entries;
+    }
+
+-- ---- the lengths of the tables
+joined-sized : (r : Record) (s : State) (a : Arrival) → Sized r → Sized (joinedOf r s a)
+unfolding joinedOf
+joined-sized r s a z = record {
+  pending = z .pending;
+  version = z .version;
+  entry = length-set (r .entry) (a .cpu) (a .entry) ∙ z .entry;
+  context = length-set (r .context) (a .cpu) (a .context) ∙ z .context;
+}
+
+settled-sized : (r : Record) (s : State) → Sized r → Sized (settledOf r s)
+unfolding settledOf
+settled-sized r s z = record { pending = z .pending; version = z .version; entry = refl; context = refl }
+
+forgotten-sized : (r : Record) (id : ℕ) → Sized r → Sized (forgottenOf r id)
+unfolding forgottenOf
+forgotten-sized r id z = record {
+  pending = length-set (r .pending) id false ∙ z .pending;
+  version = length-set (r .version) id 0 ∙ z .version;
+  entry = z .entry;
+  context = z .context;
+}
+
+arrived-sized : (r : Record) (i : Image) → Sized r → Sized (arrivedOf r i)
+unfolding arrivedOf
+arrived-sized r i z = record {
+  pending = length-set (r .pending) (i .component) true ∙ z .pending;
+  version = length-set (r .version) (i .component) (i .version) ∙ z .version;
+  entry = z .entry;
+  context = z .context;
+}
+
+ended-sized : (r : Record) (p : Report) → Sized r → Sized (endedOf r p)
+unfolding endedOf
+ended-sized r p z =
+    let next = settledOf r (afterActivate p) in
+    let sized = settled-sized r (afterActivate p) z in
+    pick-cases Sized (isDone (p .code)) (forgottenOf next (p .component)) next (λ d. forgotten-sized next (p .component) sized) (λ d. sized)
+
+-- ---- the end of an activation
+
+-- a done activation leaves the state idle
+done-idle : (p : Report) → isDone (p .code) ≡ true → subjectOf (afterActivate p) ≡ subject.Nothing
+unfolding isDone afterActivate
+done-idle p d = or-cases (eqb (p .code) 0) (eqb (p .code) 12) d (λ t. rw (eqb-true (p .code) 0 t)) (λ t. rw (eqb-true (p .code) 12 t))
+
+settled-subject : (r : Record) (p : Report) → isDone (p .code) ≡ true → subjectOf (settledOf r (afterActivate p) .state) ≡ subject.Nothing
+unfolding settledOf
+settled-subject r p d = done-idle p d
+
+ended-kept : (r : Record) (e : Event) (p : Report) → WellFormed r → Sized r → EndsActivate r e p → WellFormed (endedOf r p)
+unfolding endedOf
+ended-kept r e p w z g =
+    let next = settledOf r (afterActivate p) in
+    let kept = ended-state r w z e p g in
+    pick-cases WellFormed (isDone (p .code)) (forgottenOf next (p .component)) next
+    (λ d. forgotten-kept next kept (settled-sized r (afterActivate p) z) (settled-subject r p d) (p .component)) (λ d. kept)
+
+-- ---- every move
+
+abbrev Keeps : Record → Type 0
+Keeps r = WellFormed r × Sized r
+
+powered-sized : (r : Record) (on : CpuSet) → Sized r → Sized (poweredOf r on)
+unfolding poweredOf
+powered-sized r on z = record { pending = z .pending; version = z .version; entry = z .entry; context = z .context }
+
+noted : (r : Record) (informed : Bool) → WellFormed r → Sized r → Keeps (informedOf r informed)
+unfolding informedOf
+noted r informed w z = (
+  record { board = w .board; powered = w .powered; images = w .images; state = w .state; held = w .held; entries = w .entries },
+  record { pending = z .pending; version = z .version; entry = z .entry; context = z .context },
+)
+
+performed : (r : Record) (e : Event) (m : Move) → WellFormed r → Sized r → Facts r e m → Keeps (performOf r m .rec)
+unfolding refusedOf acceptedOf
+performed r e (move.Refuse x) w z g = (w, z)
+performed r e (move.Return x) w z g = (w, z)
+performed r e move.NoteInfo w z g = noted r true w z
+performed r e (move.StartPrime a) w z g = (prime-kept r w z e a g, joined-sized r _ a z)
+performed r e (move.Gather a) w z g = (gather-kept-all r w z e a g, joined-sized r _ a z)
+performed r e (move.StartTogether a) w z g = (together-kept r w z e a g, joined-sized r _ a z)
+performed r e (move.StartAlone a) w z g = (skip-kept r w z e a g, joined-sized r _ a z)
+performed r e move.Withdraw w z g = (withdraw-kept r w z, settled-sized r Idle z)
+performed r e (move.PowerOff cpu) w z g = (off-kept r w z e cpu g, powered-sized r _ z)
+performed r e (move.PowerOn x) w z g = (on-kept r w z e x g, powered-sized r _ z)
+performed r e (move.EndPrime p) w z g = (end-prime-kept r w z e p g, settled-sized r (afterPrime p) z)
+performed r e (move.EndActivate p) w z g = (ended-kept r e p w z g, ended-sized r p z)
+performed r e (move.Arrive i) w z g = (arrived-kept r e i w z g, arrived-sized r i z)
+
+-- every step keeps a well-formed record well formed: on a board that started fresh refusal 9 never comes
+pub step-kept : (r : Record) (e : Event) (entries contexts : ℕ) → wellFormed r ≡ true → Sized r
+    → (wellFormed (stepOf r e entries contexts .rec) ≡ true) × Sized (stepOf r e entries contexts .rec)
+unfolding stepOf
+step-kept r e entries contexts w z =
+    let m = decideOf r e entries contexts in
+    let k = performed r e m (told r w) z (facts r e m (decide-guard r e entries contexts)) in
+    (shown (performOf r m .rec) (k .0), k .1)

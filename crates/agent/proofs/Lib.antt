@@ -1,0 +1,4 @@
+pub mod Written
+pub mod Kept
+pub mod Refused
+pub mod Pinned

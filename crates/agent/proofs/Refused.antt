@@ -1,0 +1,69 @@
+-- A refused event changes nothing, and refusal 9 comes only to a record that is not well formed. Assumes nothing.
+use Prim.Native.Nat.{ℕ}
+use mathlib.Core.Path.{_≡_, refl, ap, subst, _∙_}
+use mathlib.Core.Bool.{true, false}
+use mathlib.Core.List.{List}
+use native.Mathlib.Omega.{arith}
+use lib.ListN.{length}
+use Rattle.basics.specs.Choice.{not-both}
+use Rattle.cpuset.specs.Set.{noneOf}
+use Rattle.cpuset.specs.Laws.{has-none}
+use Rattle.board_record.specs.WellFormed.{wellFormed}
+use Rattle.board_record.specs.declared.Record.{Record}
+use Rattle.rules.specs.Decide.{decideOf}
+use Rattle.rules.specs.declared.Event.{Event}
+use Rattle.rules.specs.declared.Move.{Move}
+use Rattle.rules.specs.declared.Move.the-variants as move
+use Rattle.rules.specs.declared.Refusal.{Refusal}
+use Rattle.rules.specs.declared.Refusal.the-variants.{NotWellFormed}
+use Rattle.rules.proofs.Guards.{Guard, facts, decide-guard}
+use Rattle.agent.specs.Perform.{refusedOf, acceptedOf, performOf}
+use Rattle.agent.specs.Step.{stepOf, resumingOf, filled, entriesOf, contextsOf}
+use Rattle.agent.specs.declared.Answer.{Answer}
+use Rattle.agent.specs.declared.Outcome.{Outcome}
+use Rattle.agent.specs.declared.Outcome.the-variants.{Refused, Accepted}
+use Rattle.agent.proofs.Written.{written-nobody}
+
+no-answer : {A : Type 0} (a : Answer) (x : Refusal) → Accepted a ≡ Refused x → A
+no-answer a x e = let z : _≡_ {A = ℕ} 0 1 = cc in absurd (omega arith)
+
+-- only a refusal refuses
+refused-is : (r : Record) (m : Move) (x : Refusal) → performOf r m .outcome ≡ Refused x → m ≡ move.Refuse x
+unfolding refusedOf acceptedOf
+refused-is r (move.Refuse y) x e = cc
+refused-is r (move.Return y) x e = no-answer _ x e
+refused-is r move.NoteInfo x e = no-answer _ x e
+refused-is r (move.StartPrime a) x e = no-answer _ x e
+refused-is r (move.Gather a) x e = no-answer _ x e
+refused-is r (move.StartTogether a) x e = no-answer _ x e
+refused-is r (move.StartAlone a) x e = no-answer _ x e
+refused-is r move.Withdraw x e = no-answer _ x e
+refused-is r (move.PowerOff cpu) x e = no-answer _ x e
+refused-is r (move.PowerOn w) x e = no-answer _ x e
+refused-is r (move.EndPrime p) x e = no-answer _ x e
+refused-is r (move.EndActivate p) x e = no-answer _ x e
+refused-is r (move.Arrive i) x e = no-answer _ x e
+
+-- the tables where nobody resumes
+stays : (o : Outcome) (x : Refusal) (from table : List ℕ) → o ≡ Refused x → filled (resumingOf o) from table ≡ table
+stays o x from table e = rw e (written-nobody _ _ from table has-none)
+
+-- a refused event leaves the record and both tables as they were
+pub refused-stays : (r : Record) (e : Event) (entries contexts : List ℕ) (x : Refusal)
+    → stepOf r e (length entries) (length contexts) .outcome ≡ Refused x
+    → (stepOf r e (length entries) (length contexts) .rec ≡ r) × (entriesOf r e entries contexts ≡ entries) × (contextsOf r e entries contexts ≡ contexts)
+unfolding stepOf entriesOf contextsOf refusedOf
+refused-stays r e entries contexts x h =
+    let m = decideOf r e (length entries) (length contexts) in (
+      ap (λ (n : Move). performOf r n .rec) (refused-is r m x h),
+      stays (performOf r m .outcome) x _ entries h,
+      stays (performOf r m .outcome) x _ contexts h,
+    )
+
+-- on a well-formed record refusal 9 never comes
+pub never-nine : (r : Record) (e : Event) (entries contexts : ℕ) → wellFormed r ≡ true → stepOf r e entries contexts .outcome ≡ Refused NotWellFormed → ⊥
+unfolding stepOf
+never-nine r e entries contexts w h =
+    let m = decideOf r e entries contexts in
+    let g = subst (Guard r e) (refused-is r m NotWellFormed h) (decide-guard r e entries contexts) in
+    not-both w (facts r e (move.Refuse NotWellFormed) g refl)

@@ -1,0 +1,35 @@
+use mathlib.Core.Bool.{true}
+use mathlib.Core.Path.{_≡_, refl}
+use native.Mathlib.Omega.{arith}
+use lib.Seq.{set-out}
+use lib.ListN.{length}
+use Rattle.board.specs.Description.{mostComponents}
+use Rattle.agent.specs.Perform.{arrivedOf}
+use borrow.Author.Needs.{needs}
+use Rattle.agent.proofs.effects.arrived.Statement.{statement}
+use Rattle.agent.proofs.effects.arrived.Tie as tie
+
+element-write-next : tie.Need-element-write-next
+element-write-next c = search needs
+
+mul-next : tie.Need-mul-next
+mul-next c = search needs
+
+element-write-next-2 : tie.Need-element-write-next-2
+element-write-next-2 c = search needs
+
+returns : tie.Need-returns
+unfolding arrivedOf
+returns c = refl
+
+returns-2 : tie.Need-returns-2
+unfolding arrivedOf
+returns-2 c =
+    let a = c .before .args in
+    let n : length (a .rec .pending) ≡ mostComponents = search needs in
+    let m : length (a .rec .version) ≡ mostComponents = search needs in
+    rw (set-out (a .rec .pending) (a .i .component) true (omega (arith, c .if1 .left)), set-out (a .rec .version) (a .i .component) (a .i .version) (omega (arith, c .if1 .left)))
+
+pub arrived-spec : {M : Type 1} → statement M
+arrived-spec =
+    tie.close (tie.spec element-write-next mul-next element-write-next-2 returns returns-2)

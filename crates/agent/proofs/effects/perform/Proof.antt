@@ -1,0 +1,168 @@
+use borrow.Author.Needs.{needs}
+use Rattle.agent.proofs.effects.perform.Statement.{statement}
+use Rattle.agent.proofs.effects.perform.Tie as tie
+
+enum-known-m : tie.Need-enum-known-m
+enum-known-m c = search needs
+
+refused-requires : tie.Need-refused-requires
+refused-requires c κs = search needs
+
+enum-known-m-2 : tie.Need-enum-known-m-2
+enum-known-m-2 c = search needs
+
+accepted-requires : tie.Need-accepted-requires
+accepted-requires c κs = search needs
+
+enum-told : tie.Need-enum-told
+enum-told c = search needs
+
+note-info-requires : tie.Need-note-info-requires
+note-info-requires c κs = search needs
+
+enum-known-m-3 : tie.Need-enum-known-m-3
+enum-known-m-3 c = search needs
+
+join-requires : tie.Need-join-requires
+join-requires c κs = search needs
+
+enum-known-m-4 : tie.Need-enum-known-m-4
+enum-known-m-4 c = search needs
+
+join-requires-2 : tie.Need-join-requires-2
+join-requires-2 c κs = search needs
+
+enum-known-m-5 : tie.Need-enum-known-m-5
+enum-known-m-5 c = search needs
+
+join-requires-3 : tie.Need-join-requires-3
+join-requires-3 c κs = search needs
+
+enum-known-m-6 : tie.Need-enum-known-m-6
+enum-known-m-6 c = search needs
+
+join-requires-4 : tie.Need-join-requires-4
+join-requires-4 c κs = search needs
+
+enum-told-2 : tie.Need-enum-told-2
+enum-told-2 c = search needs
+
+withdraw-requires : tie.Need-withdraw-requires
+withdraw-requires c κs = search needs
+
+enum-known-m-7 : tie.Need-enum-known-m-7
+enum-known-m-7 c = search needs
+
+power-off-requires : tie.Need-power-off-requires
+power-off-requires c κs = search needs
+
+enum-known-m-8 : tie.Need-enum-known-m-8
+enum-known-m-8 c = search needs
+
+power-on-requires : tie.Need-power-on-requires
+power-on-requires c κs = search needs
+
+enum-known-m-9 : tie.Need-enum-known-m-9
+enum-known-m-9 c = search needs
+
+end-prime-requires : tie.Need-end-prime-requires
+end-prime-requires c κs = search needs
+
+enum-known-m-10 : tie.Need-enum-known-m-10
+enum-known-m-10 c = search needs
+
+end-activate-requires : tie.Need-end-activate-requires
+end-activate-requires c κs = search needs
+
+enum-known-m-11 : tie.Need-enum-known-m-11
+enum-known-m-11 c = search needs
+
+arrived-requires : tie.Need-arrived-requires
+arrived-requires c κs = search needs
+
+accepted-requires-2 : tie.Need-accepted-requires-2
+accepted-requires-2 c κs = search needs
+
+returns : tie.Need-returns
+returns c = rw (c .before .before .m .given .1) (c .refused .ensures)
+
+returns-2 : tie.Need-returns-2
+returns-2 c = rw (c .before .before .m2 .given .1) (c .accepted .ensures)
+
+returns-3 : tie.Need-returns-3
+returns-3 c = rw (c .before .enum-told .given .1) (c .note-info .ensures)
+
+returns-4 : tie.Need-returns-4
+returns-4 c = rw (c .before .before .m3 .given .1) (c .join .ensures)
+
+returns-5 : tie.Need-returns-5
+returns-5 c = rw (c .before .before .m4 .given .1) (c .join2 .ensures)
+
+returns-6 : tie.Need-returns-6
+returns-6 c = rw (c .before .before .m5 .given .1) (c .join3 .ensures)
+
+returns-7 : tie.Need-returns-7
+returns-7 c = rw (c .before .before .m6 .given .1) (c .join4 .ensures)
+
+returns-8 : tie.Need-returns-8
+returns-8 c = rw (c .before .enum-told2 .given .1) (c .withdraw .ensures)
+
+returns-9 : tie.Need-returns-9
+returns-9 c = rw (c .before .before .m7 .given .1) (c .power-off .ensures)
+
+returns-10 : tie.Need-returns-10
+returns-10 c = rw (c .before .before .m8 .given .1) (c .power-on .ensures)
+
+returns-11 : tie.Need-returns-11
+returns-11 c = rw (c .before .before .m9 .given .1) (c .end-prime .ensures)
+
+returns-12 : tie.Need-returns-12
+returns-12 c = rw (c .before .before .m10 .given .1) (c .end-activate .ensures)
+
+returns-13 : tie.Need-returns-13
+returns-13 c = rw (c .before .before .before .m11 .given .1) (rw (c .before .arrived .ensures) at (c .accepted2 .ensures))
+
+pub perform-spec : {M : Type 1} → statement M
+perform-spec =
+    tie.close
+    (tie.spec
+    enum-known-m
+    refused-requires
+    enum-known-m-2
+    accepted-requires
+    enum-told
+    note-info-requires
+    enum-known-m-3
+    join-requires
+    enum-known-m-4
+    join-requires-2
+    enum-known-m-5
+    join-requires-3
+    enum-known-m-6
+    join-requires-4
+    enum-told-2
+    withdraw-requires
+    enum-known-m-7
+    power-off-requires
+    enum-known-m-8
+    power-on-requires
+    enum-known-m-9
+    end-prime-requires
+    enum-known-m-10
+    end-activate-requires
+    enum-known-m-11
+    arrived-requires
+    accepted-requires-2
+    returns
+    returns-2
+    returns-3
+    returns-4
+    returns-5
+    returns-6
+    returns-7
+    returns-8
+    returns-9
+    returns-10
+    returns-11
+    returns-12
+    returns-13)

@@ -1,0 +1,169 @@
+-- Document 01's bench examples of the agent (marked P), and each refusal of an event once: one claim over one list.
+-- Assumes nothing.
+use Prim.Native.Nat.{ℕ, _+_, _-_, _^_}
+use mathlib.Core.Path.{_≡_, refl}
+use mathlib.Core.Bool.{Bool, true, false, _&&_}
+use mathlib.Core.List.{List, [], _∷_, _++_}
+use lib.Dec.{eqb, leb, ltb}
+use lib.ListN.{set, replicate}
+use Rattle.basics.specs.Every.{allBelow, allHold}
+use Rattle.basics.specs.Places.{firsts}
+use Rattle.cpuset.specs.Bit.{bit}
+use Rattle.cpuset.specs.Tally.{tally}
+use Rattle.cpuset.specs.Set.{room, hasOf, noneOf, onlyOf, unionOf, lessOf, belowOf, sameOf, countOf}
+use Rattle.board.specs.Description.{blank, numberedOf, goodEntry, withinLimit, judgedOf}
+use Rattle.board.specs.Packed.{writableOf, boardStands}
+use Rattle.board.specs.declared.Board.{Board}
+use Rattle.board.specs.declared.Component.{Component}
+use Rattle.board_record.specs.Record.{freshOf}
+use Rattle.board_record.specs.WellFormed.{poweredStand, imageStands, imagesStand, subjectStands, stateStands, heldStand, entryStands, entriesStand, restStands, wellFormed}
+use Rattle.board_record.specs.declared.Record.{Record}
+use Rattle.rules.specs.Moves.{minusOf, numberOf, isCapable}
+use Rattle.rules.specs.Numbers.{versionNumber, featuresNumber, infoNumber, inventoryNumber, primeNumber, activateNumber, cancelNumber, offNumber, onNumber, decodeOf}
+use Rattle.rules.specs.Calls.{returned, featuresOf, infoOf, lowestFirst, describedOf, inventoryOf, arrivalOf, mayPrime, tryPrimeOf, trySameOf, skipRight, fieldsRight, entryRight, joinOf, tryActivateOf, cancelOf, offFree, onOf, answerOf, callOf}
+use Rattle.rules.specs.Reports.{primeAllows, activateAllows, primeReportOf, activateReportOf, imageOf}
+use Rattle.rules.specs.Decide.{decideOf}
+use Rattle.rules.specs.declared.Event.{Event}
+use Rattle.rules.specs.declared.Event.the-variants as event
+use Rattle.rules.specs.declared.Registers.{Registers}
+use Rattle.agent.specs.Perform.{refusedOf, acceptedOf, informedOf, joinedOf, settledOf, poweredOf, reportedOf, afterPrime, afterActivate, isDone, forgottenOf, endedOf, releasedOf, arrivedOf}
+use Rattle.agent.specs.Step.{stepOf}
+use Rattle.agent.specs.declared.Caller.{Caller}
+use Rattle.agent.specs.declared.Caller.the-variants as caller
+use Rattle.agent.specs.declared.Outcome.{Outcome}
+use Rattle.agent.specs.declared.Outcome.the-variants.{Refused, Accepted}
+
+-- a board of 4 CPUs: component 0 may reset, component 1 is optional, component 2 is not capable
+abbrev part : ℕ → Bool → Bool → Bool → Component
+part k able reset optional = record { uuid = firsts 16 (λ j. k + j); capable = able; «may_reset» = reset; optional = optional; svn = 5 }
+
+abbrev board : Board
+board = record {
+  components = 3;
+  cpus = 4;
+  first = 0x1000;
+  last = 0x1FFF;
+  component = part 0 true true false ∷ part 16 true false true ∷ part 32 false false false ∷ replicate 29 blank;
+}
+
+-- ---- events
+abbrev call : ℕ → ℕ → ℕ → ℕ → ℕ → ℕ → Event
+call cpu x0 x1 x2 x3 x4 = event.Call (record { cpu = cpu; x0 = x0; x1 = x1; x2 = x2; x3 = x3; x4 = x4 })
+
+abbrev image : ℕ → ℕ → Event
+image c v = event.Image (record { component = c; version = v })
+
+abbrev primed : ℕ → ℕ → Event
+primed c code = event.Prime (record { component = c; code = code })
+
+abbrev activated : ℕ → ℕ → Event
+activated c code = event.Activate (record { component = c; code = code })
+
+abbrev info : Event
+info = call 0 infoNumber 0 0 0 0
+
+abbrev prime : ℕ → Event
+prime c = call 0 primeNumber c 0 0 0
+
+abbrev activate : ℕ → ℕ → Event
+activate cpu c = call cpu activateNumber c 0 0x1000 0
+
+abbrev switchOn : ℕ → ℕ → Event
+switchOn cpu target = call cpu onNumber target 0x1FFC 7 0
+
+-- component c is made ready on a fresh board, with these events before it
+abbrev ready : ℕ → List Event
+ready c = image c 5 ∷ prime c ∷ primed c 0 ∷ []
+
+-- ---- answers
+abbrev told : Caller → List ℕ
+told caller.Nothing = 6 ∷ []
+told (caller.Returned x) = 1 ∷ x .x0 ∷ []
+told caller.Held = 2 ∷ []
+told caller.PrimeStarted = 3 ∷ []
+told caller.ActivationStarted = 4 ∷ []
+told caller.Gone = 5 ∷ []
+
+abbrev answered : Outcome → List ℕ
+answered (Refused x) = 0 ∷ numberOf x ∷ []
+answered (Accepted a) = told (a .caller)
+
+abbrev same : List ℕ → List ℕ → Bool
+same [] [] = true
+same [] (y ∷ ys) = false
+same (x ∷ xs) [] = false
+same (x ∷ xs) (y ∷ ys) = eqb x y && same xs ys
+
+-- the record after some events, each accepted or not
+abbrev after : Record → List Event → Record
+after r [] = r
+after r (e ∷ es) = after (stepOf r e 4 4 .rec) es
+
+-- what a fresh board answers to an event after others
+abbrev answer : List Event → Event → List ℕ
+answer es e = answered (stepOf (after (freshOf board) es) e 4 4 .outcome)
+
+abbrev says : List Event → Event → ℕ → Bool
+says es e x0 = same (answer es e) (1 ∷ x0 ∷ [])
+
+abbrev refuses : List Event → Event → ℕ → Bool
+refuses es e n = same (answer es e) (0 ∷ n ∷ [])
+
+-- X1 that a call returns
+abbrev x1Of : Outcome → ℕ
+x1Of (Refused x) = 0
+x1Of (Accepted a) = by (a .caller)
+  where
+    by : Caller → ℕ
+    by caller.Nothing = 0
+    by (caller.Returned x) = x .x1
+    by caller.Held = 0
+    by caller.PrimeStarted = 0
+    by caller.ActivationStarted = 0
+    by caller.Gone = 0
+
+unfoldable pub examples : List Bool
+unfolding allBelow firsts bit tally room hasOf noneOf onlyOf unionOf lessOf belowOf sameOf countOf numberedOf goodEntry withinLimit judgedOf writableOf boardStands freshOf poweredStand imageStands imagesStand subjectStands stateStands heldStand entryStands entriesStand restStands wellFormed minusOf isCapable decodeOf returned featuresOf infoOf lowestFirst describedOf inventoryOf arrivalOf mayPrime tryPrimeOf trySameOf skipRight fieldsRight entryRight joinOf tryActivateOf cancelOf offFree onOf answerOf callOf primeAllows activateAllows primeReportOf activateReportOf imageOf decideOf refusedOf acceptedOf informedOf joinedOf settledOf poweredOf reportedOf afterPrime afterActivate isDone forgottenOf endedOf releasedOf arrivedOf stepOf
+examples =
+    -- P unknown number 0xC40002E7: -1. P FEATURES of 0x84000002: -1
+    says [] (call 0 0xC40002E7 0 0 0 0) (2 ^ 64 - 1)
+    ∷ says [] (call 0 featuresNumber offNumber 0 0 0) (2 ^ 64 - 1)
+    ∷ says [] (call 0 versionNumber 0 0 0 0) 65536
+    -- P UUID bytes 00..0f: X1 = 0x0706050403020100
+    ∷ eqb (x1Of (stepOf (after (freshOf board) (info ∷ [])) (call 0 inventoryNumber 0 0 0 0) 4 4 .outcome)) 0x0706050403020100
+    -- P inventory before GET_INFO, id too large: -7; after it: -8
+    ∷ says [] (call 0 inventoryNumber 99 0 0 0) (2 ^ 64 - 7)
+    ∷ says (info ∷ []) (call 0 inventoryNumber 99 0 0 0) (2 ^ 64 - 8)
+    -- P version 4, SVN 5: -3; version 5: starts
+    ∷ says (image 1 4 ∷ []) (prime 1) (2 ^ 64 - 3)
+    ∷ same (answer (image 1 5 ∷ []) (prime 1)) (3 ∷ [])
+    -- P one CPU on: its ACTIVATE starts. P two on: held, then starts
+    ∷ same (answer (ready 0) (activate 0 0)) (4 ∷ [])
+    ∷ same (answer (switchOn 0 2 ∷ ready 0) (activate 0 0)) (2 ∷ [])
+    ∷ same (answer (switchOn 0 2 ∷ ready 0 ++ activate 0 0 ∷ []) (activate 2 0)) (4 ∷ [])
+    -- P CPU_ON, off target and good entry, in gathering: -6, powered set as before
+    ∷ says (switchOn 0 2 ∷ ready 0 ++ activate 0 0 ∷ []) (switchOn 2 3) (2 ^ 64 - 6)
+    ∷ sameOf (after (freshOf board) (switchOn 0 2 ∷ ready 0 ++ activate 0 0 ∷ switchOn 2 3 ∷ []) .on) (unionOf (onlyOf 0) (onlyOf 2))
+    -- P CANCEL of id 99 in idle: 0; in ready for 1: -8
+    ∷ says [] (call 0 cancelNumber 99 0 0 0) 0
+    ∷ says (ready 1) (call 0 cancelNumber 99 0 0 0) (2 ^ 64 - 8)
+    -- P code 1 in together: 6
+    ∷ refuses (ready 0 ++ activate 0 0 ∷ []) (activated 0 1) 6
+    -- postponed (code 2), then one of two CPUs calls: held
+    ∷ same (answer (switchOn 0 2 ∷ ready 0 ++ activate 0 0 ∷ activate 2 0 ∷ activated 0 2 ∷ []) (activate 0 0)) (2 ∷ [])
+    -- each refusal of an event once
+    ∷ same (answered (stepOf (after (freshOf board) []) info 3 4 .outcome)) (0 ∷ 1 ∷ [])
+    ∷ same (answered (stepOf (after (freshOf board) []) info 4 3 .outcome)) (0 ∷ 1 ∷ [])
+    ∷ same (answered (stepOf (freshOf (record { components = 3; cpus = 65; first = 0; last = 0; component = board .component })) info 99 99 .outcome)) (0 ∷ 9 ∷ [])
+    ∷ refuses [] (call 4 versionNumber 0 0 0 0) 2
+    ∷ refuses [] (call 3 versionNumber 0 0 0 0) 3
+    ∷ refuses (image 1 5 ∷ prime 1 ∷ []) (call 0 versionNumber 0 0 0 0) 4
+    ∷ refuses [] (primed 1 0) 5
+    ∷ refuses (image 1 5 ∷ prime 1 ∷ []) (primed 1 2) 6
+    ∷ refuses [] (image 2 5) 7
+    ∷ refuses (ready 1) (image 1 6) 8
+    ∷ []
+
+pub examples-hold : allHold examples ≡ true
+unfolding allHold examples
+examples-hold = refl

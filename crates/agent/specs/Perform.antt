@@ -1,0 +1,199 @@
+-- What each move does and answers (document 01, "Calls" and "Reports"). Assumes nothing.
+use Prim.Native.Nat.{ℕ}
+use mathlib.Core.Bool.{Bool, true, false, _||_}
+use lib.Dec.{eqb}
+use lib.ListN.{set, replicate}
+use Rattle.basics.specs.Choice.{pick}
+use Rattle.cpuset.specs.Set.{noneOf, onlyOf, withOf, withoutOf}
+use Rattle.cpuset.specs.declared.CpuSet.{CpuSet}
+use Rattle.board.specs.Description.{mostCpus}
+use Rattle.board_record.specs.Record.{isGathering}
+use Rattle.board_record.specs.declared.Record.{Record}
+use Rattle.board_record.specs.declared.State.{State}
+use Rattle.board_record.specs.declared.State.the-variants.{Idle, Preparing, HalfPrepared, Ready, Gathering, Together, Alone, HalfActivated, Dead}
+use Rattle.rules.specs.Moves.{minusOf}
+use Rattle.rules.specs.declared.Arrival.{Arrival}
+use Rattle.rules.specs.declared.Image.{Image}
+use Rattle.rules.specs.declared.Refusal.{Refusal}
+use Rattle.rules.specs.declared.Report.{Report}
+use Rattle.rules.specs.declared.Waking.{Waking}
+use Rattle.rules.specs.declared.Move.{Move}
+use Rattle.rules.specs.declared.Move.the-variants as move
+use Rattle.agent.specs.declared.Caller.{Caller}
+use Rattle.agent.specs.declared.Caller.the-variants as caller
+use Rattle.agent.specs.declared.Release.{Release}
+use Rattle.agent.specs.declared.Release.the-variants as release
+use Rattle.agent.specs.declared.Outcome.the-variants.{Refused, Accepted}
+use Rattle.agent.specs.declared.Stepped.{Stepped}
+
+-- a refusal "comes with nothing else"
+unfoldable pub refusedOf : Record → Refusal → Stepped
+refusedOf r x = record { rec = r; outcome = Refused x }
+
+-- "an answer has a caller's part and a release part"
+unfoldable pub acceptedOf : Record → Caller → Release → Stepped
+acceptedOf r who free = record { rec = r; outcome = Accepted (record { caller = who; release = free }) }
+
+abbrev pub successOf : ℕ → Caller
+successOf x1 = caller.Returned (record { x0 = 0; x1 = x1; x2 = 0; x3 = 0 })
+
+-- ---- GET_INFO "gives 0 and the component count and notes the call"
+unfoldable pub informedOf : Record → Bool → Record
+informedOf r noted = record {
+  board = r .board;
+  pending = r .pending;
+  version = r .version;
+  state = r .state;
+  on = r .on;
+  held = r .held;
+  entry = r .entry;
+  context = r .context;
+  informed = noted;
+}
+
+abbrev pub noteInfoOf : Record → Stepped
+noteInfoOf r = acceptedOf (informedOf r true) (successOf (r .board .components)) release.Nobody
+
+-- ---- "the caller is held"
+unfoldable pub joinedOf : Record → State → Arrival → Record
+joinedOf r s a = record {
+  board = r .board;
+  pending = r .pending;
+  version = r .version;
+  state = s;
+  on = r .on;
+  held = withOf (r .held) (a .cpu);
+  entry = set (r .entry) (a .cpu) (a .entry);
+  context = set (r .context) (a .cpu) (a .context);
+  informed = r .informed;
+}
+
+abbrev pub joinOf : Record → State → Arrival → Caller → Stepped
+joinOf r s a who = acceptedOf (joinedOf r s a) who release.Nobody
+
+-- ---- the held CPUs are released; entries and context ids are "0 elsewhere"
+unfoldable pub settledOf : Record → State → Record
+settledOf r s = record {
+  board = r .board;
+  pending = r .pending;
+  version = r .version;
+  state = s;
+  on = r .on;
+  held = noneOf;
+  entry = replicate mostCpus 0;
+  context = replicate mostCpus 0;
+  informed = r .informed;
+}
+
+-- "a set of CPUs with one X0 and X1"
+abbrev pub freedOf : CpuSet → ℕ → ℕ → Release
+freedOf cpus x0 x1 = release.Returned (record { cpus = cpus; x0 = x0; x1 = x1 })
+
+-- ---- CANCEL: "From gathering, the held CPUs are released with X0 = -11, X1 = 0"
+abbrev pub withdrawnOf : Record → Release
+withdrawnOf r = pick (isGathering (r .state)) (freedOf (r .held) (minusOf 11) 0) release.Nobody
+
+abbrev pub withdrawOf : Record → Stepped
+withdrawOf r = acceptedOf (settledOf r Idle) (successOf 0) (withdrawnOf r)
+
+-- ---- CPU_OFF, CPU_ON
+unfoldable pub poweredOf : Record → CpuSet → Record
+poweredOf r cpus = record {
+  board = r .board;
+  pending = r .pending;
+  version = r .version;
+  state = r .state;
+  on = cpus;
+  held = r .held;
+  entry = r .entry;
+  context = r .context;
+  informed = r .informed;
+}
+
+abbrev pub powerOffOf : Record → ℕ → Stepped
+powerOffOf r cpu = acceptedOf (poweredOf r (withoutOf (r .on) cpu)) caller.Gone release.Nobody
+
+-- "0 and the target resumes"
+abbrev pub powerOnOf : Record → Waking → Stepped
+powerOnOf r w =
+    acceptedOf (poweredOf r (withOf (r .on) (w .target))) (successOf 0) (release.Resumed (onlyOf (w .target)))
+
+-- ---- reports: "The held CPUs are released with that status and X1 = 0, or with X0 = 0 and X1 = 1 for code 1"
+unfoldable pub reportedOf : CpuSet → ℕ → Release
+reportedOf held code = pick (eqb code 1) (freedOf held 0 1) (freedOf held (minusOf code) 0)
+
+-- "Prime allows 0 (ready), 1 (half-prepared), 3, 4, 6, 11 (idle)"
+unfoldable pub afterPrime : Report → State
+afterPrime p = pick (eqb (p .code) 0) (Ready (p .component)) (pick (eqb (p .code) 1) (HalfPrepared (p .component)) Idle)
+
+abbrev pub endPrimeOf : Record → Report → Stepped
+endPrimeOf r p = acceptedOf (settledOf r (afterPrime p)) caller.Nothing (reportedOf (r .held) (p .code))
+
+-- "Code 0 or 12: idle .. 1: half-activated. 2: ready. 5: dead .. Others: idle"
+unfoldable pub afterActivate : Report → State
+afterActivate p =
+    pick (eqb (p .code) 1) (HalfActivated (p .component))
+    (pick (eqb (p .code) 2) (Ready (p .component))
+    (pick (eqb (p .code) 5) Dead
+    Idle))
+
+-- the code "12 done by reset"
+abbrev byReset : ℕ
+byReset = 12
+
+-- "Code 0 or 12: .. pending cleared, GET_INFO forgotten"
+unfoldable pub isDone : ℕ → Bool
+isDone code = eqb code 0 || eqb code byReset
+
+unfoldable pub forgottenOf : Record → ℕ → Record
+forgottenOf r id = record {
+  board = r .board;
+  pending = set (r .pending) id false;
+  version = set (r .version) id 0;
+  state = r .state;
+  on = r .on;
+  held = r .held;
+  entry = r .entry;
+  context = r .context;
+  informed = false;
+}
+
+unfoldable pub endedOf : Record → Report → Record
+endedOf r p =
+    let next = settledOf r (afterActivate p) in pick (isDone (p .code)) (forgottenOf next (p .component)) next
+
+-- "12 resumes the held CPUs by entry, each with its context id"
+unfoldable pub releasedOf : CpuSet → ℕ → Release
+releasedOf held code = pick (eqb code byReset) (release.Resumed held) (reportedOf held code)
+
+abbrev pub endActivateOf : Record → Report → Stepped
+endActivateOf r p = acceptedOf (endedOf r p) caller.Nothing (releasedOf (r .held) (p .code))
+
+-- ---- "An accepted image makes its component pending with that version, in place of an older one"
+unfoldable pub arrivedOf : Record → Image → Record
+arrivedOf r i = record {
+  board = r .board;
+  pending = set (r .pending) (i .component) true;
+  version = set (r .version) (i .component) (i .version);
+  state = r .state;
+  on = r .on;
+  held = r .held;
+  entry = r .entry;
+  context = r .context;
+  informed = r .informed;
+}
+
+abbrev pub performOf : Record → Move → Stepped
+performOf r (move.Refuse x) = refusedOf r x
+performOf r (move.Return x) = acceptedOf r (caller.Returned x) release.Nobody
+performOf r move.NoteInfo = noteInfoOf r
+performOf r (move.StartPrime a) = joinOf r (Preparing (a .component)) a caller.PrimeStarted
+performOf r (move.Gather a) = joinOf r (Gathering (a .component)) a caller.Held
+performOf r (move.StartTogether a) = joinOf r (Together (a .component)) a caller.ActivationStarted
+performOf r (move.StartAlone a) = joinOf r (Alone (a .component)) a caller.ActivationStarted
+performOf r move.Withdraw = withdrawOf r
+performOf r (move.PowerOff cpu) = powerOffOf r cpu
+performOf r (move.PowerOn w) = powerOnOf r w
+performOf r (move.EndPrime p) = endPrimeOf r p
+performOf r (move.EndActivate p) = endActivateOf r p
+performOf r (move.Arrive i) = acceptedOf (arrivedOf r i) caller.Nothing release.Nobody

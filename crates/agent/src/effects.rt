@@ -1,0 +1,310 @@
+// What each move does to the record, and what it answers.
+use crate::Answer;
+use crate::Caller;
+use crate::Freed;
+use crate::Outcome;
+use crate::Release;
+use crate::Stepped;
+use board_record::Record;
+use board_record::State;
+use cpuset::CpuSet;
+use rules::Arrival;
+use rules::Image;
+use rules::Move;
+use rules::Refusal;
+use rules::Registers;
+use rules::Report;
+use rules::Waking;
+ghost use mathlib.Core.Path.{_≡_};
+ghost use lib.ListN.{set};
+ghost use Rattle.agent.specs.Perform.{refusedOf, acceptedOf, successOf, noteInfoOf, joinedOf, joinOf, settledOf, freedOf, withdrawnOf, withdrawOf, poweredOf, powerOffOf, powerOnOf, reportedOf, afterPrime, endPrimeOf, afterActivate, forgottenOf, isDone, endedOf, releasedOf, endActivateOf, arrivedOf, performOf};
+
+// The code of an activation that is done by reset.
+const BY_RESET: u64 = 12;
+
+fn refused(rec: Record, x: Refusal) -> Stepped
+    ensures { λ r. ⌜ r ≡ refusedOf rec x ⌝ }
+{
+    Stepped {
+        rec: rec,
+        outcome: Outcome::Refused(x),
+    }
+}
+
+fn accepted(rec: Record, caller: Caller, release: Release) -> Stepped
+    ensures { λ r. ⌜ r ≡ acceptedOf rec caller release ⌝ }
+{
+    Stepped {
+        rec: rec,
+        outcome: Outcome::Accepted(Answer {
+            caller: caller,
+            release: release,
+        }),
+    }
+}
+
+// The caller goes on with 0 in X0, and x1.
+fn success(x1: u64) -> Caller
+    ensures { λ r. ⌜ r ≡ successOf x1 ⌝ }
+{
+    Caller::Returned(Registers {
+        x0: 0,
+        x1: x1,
+        x2: 0,
+        x3: 0,
+    })
+}
+
+fn note_info(rec: Record) -> Stepped
+    ensures { λ r. ⌜ r ≡ noteInfoOf rec ⌝ }
+{
+    let count = rec.board.components;
+    accepted(
+        Record {
+            informed: true,
+            ..rec
+        },
+        success(count),
+        Release::Nobody,
+    )
+}
+
+// A table of CPUs with one place written.
+fn put(table: [u64; board::MOST_CPUS], i: u64, v: u64) -> [u64; board::MOST_CPUS]
+    ensures { λ r. ⌜ r ≡ set table i v ⌝ }
+{
+    let mut t = table;
+    if i < board::MOST_CPUS as u64 {
+        t[i as usize] = v;
+    }
+    t
+}
+
+// The caller joins the held CPUs.
+fn joined(rec: Record, s: State, a: Arrival) -> Record
+    ensures { λ r. ⌜ r ≡ joinedOf rec s a ⌝ }
+{
+    let held = rec.held;
+    let entry = rec.entry;
+    let context = rec.context;
+    Record {
+        state: s,
+        held: cpuset::with(held, a.cpu),
+        entry: put(entry, a.cpu, a.entry),
+        context: put(context, a.cpu, a.context),
+        ..rec
+    }
+}
+
+// The caller is held in this state, and is told so.
+fn join(rec: Record, s: State, a: Arrival, caller: Caller) -> Stepped
+    ensures { λ r. ⌜ r ≡ joinOf rec s a caller ⌝ }
+{
+    accepted(joined(rec, s, a), caller, Release::Nobody)
+}
+
+// The held CPUs are released, and nothing is kept of them.
+fn settled(rec: Record, s: State) -> Record
+    ensures { λ r. ⌜ r ≡ settledOf rec s ⌝ }
+{
+    Record {
+        state: s,
+        held: cpuset::none(),
+        entry: [0; board::MOST_CPUS],
+        context: [0; board::MOST_CPUS],
+        ..rec
+    }
+}
+
+// CPUs that go on with a status and X1.
+fn freed(cpus: CpuSet, x0: u64, x1: u64) -> Release
+    ensures { λ r. ⌜ r ≡ freedOf cpus x0 x1 ⌝ }
+{
+    Release::Returned(Freed {
+        cpus: cpus,
+        x0: x0,
+        x1: x1,
+    })
+}
+
+// Those that a CANCEL releases: the CPUs held for ACTIVATE, and no others.
+fn withdrawn(rec: Record) -> Release
+    ensures { λ r. ⌜ r ≡ withdrawnOf rec ⌝ }
+{
+    let s = rec.state;
+    let held = rec.held;
+    if board_record::is_gathering(s) {
+        freed(held, rules::minus(11), 0)
+    } else {
+        Release::Nobody
+    }
+}
+
+fn withdraw(rec: Record) -> Stepped
+    ensures { λ r. ⌜ r ≡ withdrawOf rec ⌝ }
+{
+    accepted(settled(rec, State::Idle), success(0), withdrawn(rec))
+}
+
+fn powered(rec: Record, cpus: CpuSet) -> Record
+    ensures { λ r. ⌜ r ≡ poweredOf rec cpus ⌝ }
+{
+    Record { on: cpus, ..rec }
+}
+
+fn power_off(rec: Record, cpu: u64) -> Stepped
+    ensures { λ r. ⌜ r ≡ powerOffOf rec cpu ⌝ }
+{
+    let on = rec.on;
+    accepted(
+        powered(rec, cpuset::without(on, cpu)),
+        Caller::Gone,
+        Release::Nobody,
+    )
+}
+
+fn power_on(rec: Record, w: Waking) -> Stepped
+    ensures { λ r. ⌜ r ≡ powerOnOf rec w ⌝ }
+{
+    let on = rec.on;
+    accepted(
+        powered(rec, cpuset::with(on, w.target)),
+        success(0),
+        Release::Resumed(cpuset::only(w.target)),
+    )
+}
+
+// The status that a code says, and whether to call again.
+fn reported(held: CpuSet, code: u64) -> Release
+    ensures { λ r. ⌜ r ≡ reportedOf held code ⌝ }
+{
+    if code == 1 {
+        freed(held, 0, 1)
+    } else {
+        freed(held, rules::minus(code), 0)
+    }
+}
+
+fn after_prime(p: Report) -> State
+    ensures { λ r. ⌜ r ≡ afterPrime p ⌝ }
+{
+    if p.code == 0 {
+        return State::Ready(p.component);
+    }
+    if p.code == 1 {
+        return State::HalfPrepared(p.component);
+    }
+    State::Idle
+}
+
+fn end_prime(rec: Record, p: Report) -> Stepped
+    ensures { λ r. ⌜ r ≡ endPrimeOf rec p ⌝ }
+{
+    let held = rec.held;
+    accepted(
+        settled(rec, after_prime(p)),
+        Caller::Nothing,
+        reported(held, p.code),
+    )
+}
+
+fn after_activate(p: Report) -> State
+    ensures { λ r. ⌜ r ≡ afterActivate p ⌝ }
+{
+    if p.code == 1 {
+        return State::HalfActivated(p.component);
+    }
+    if p.code == 2 {
+        return State::Ready(p.component);
+    }
+    if p.code == 5 {
+        return State::Dead;
+    }
+    State::Idle
+}
+
+// The image of component id is pending no more, and GET_INFO is forgotten.
+fn forgotten(rec: Record, id: u64) -> Record
+    ensures { λ r. ⌜ r ≡ forgottenOf rec id ⌝ }
+{
+    let mut next = rec;
+    if id < board::MOST_COMPONENTS as u64 {
+        next.pending[id as usize] = false;
+        next.version[id as usize] = 0;
+    }
+    next.informed = false;
+    next
+}
+
+fn is_done(code: u64) -> bool
+    ensures { λ r. ⌜ r ≡ isDone code ⌝ }
+{
+    if code == 0 { true } else { code == BY_RESET }
+}
+
+fn ended(rec: Record, p: Report) -> Record
+    ensures { λ r. ⌜ r ≡ endedOf rec p ⌝ }
+{
+    let next = settled(rec, after_activate(p));
+    if is_done(p.code) {
+        forgotten(next, p.component)
+    } else {
+        next
+    }
+}
+
+fn released(held: CpuSet, code: u64) -> Release
+    ensures { λ r. ⌜ r ≡ releasedOf held code ⌝ }
+{
+    if code == BY_RESET {
+        Release::Resumed(held)
+    } else {
+        reported(held, code)
+    }
+}
+
+fn end_activate(rec: Record, p: Report) -> Stepped
+    ensures { λ r. ⌜ r ≡ endActivateOf rec p ⌝ }
+{
+    let held = rec.held;
+    accepted(ended(rec, p), Caller::Nothing, released(held, p.code))
+}
+
+// The image is pending with its version, in place of an older one.
+fn arrived(rec: Record, i: Image) -> Record
+    ensures { λ r. ⌜ r ≡ arrivedOf rec i ⌝ }
+{
+    let mut next = rec;
+    let id = i.component;
+    if id < board::MOST_COMPONENTS as u64 {
+        next.pending[id as usize] = true;
+        next.version[id as usize] = i.version;
+    }
+    next
+}
+
+// The next record and the answer of a move.
+pub(crate) fn perform(rec: Record, m: Move) -> Stepped
+    ensures { λ r. ⌜ r ≡ performOf rec m ⌝ }
+{
+    match m {
+        Move::Refuse(x) => refused(rec, x),
+        Move::Return(x) => accepted(rec, Caller::Returned(x), Release::Nobody),
+        Move::NoteInfo => note_info(rec),
+        Move::StartPrime(a) => join(rec, State::Preparing(a.component), a, Caller::PrimeStarted),
+        Move::Gather(a) => join(rec, State::Gathering(a.component), a, Caller::Held),
+        Move::StartTogether(a) => join(
+            rec,
+            State::Together(a.component),
+            a,
+            Caller::ActivationStarted,
+        ),
+        Move::StartAlone(a) => join(rec, State::Alone(a.component), a, Caller::ActivationStarted),
+        Move::Withdraw => withdraw(rec),
+        Move::PowerOff(cpu) => power_off(rec, cpu),
+        Move::PowerOn(w) => power_on(rec, w),
+        Move::EndPrime(p) => end_prime(rec, p),
+        Move::EndActivate(p) => end_activate(rec, p),
+        Move::Arrive(i) => accepted(arrived(rec, i), Caller::Nothing, Release::Nobody),
+    }
+}
