@@ -1,31 +1,30 @@
 -- Every step keeps a well-formed record well formed, and a refused event changes nothing. Assumes nothing.
-use Prim.Native.Nat.{ℕ, _+_, _<_, _≤_}
+use Prim.Native.Nat.{ℕ, _<_}
 use mathlib.Core.Path.{_≡_, refl, sym, ap, subst, _∙_}
-use mathlib.Core.Bool.{Bool, true, false, not, _&&_, _||_, and-false, and-true, or-false, or-true}
+use mathlib.Core.Bool.{Bool, true, false, not, _&&_, and-false, and-true, or-false, or-true}
 use mathlib.Core.List.{List}
-use mathlib.Core.Logic.{⊎-elim}
 use native.Mathlib.Omega.{arith}
 use lib.Dec.{eqb, leb, ltb}
-use lib.ListN.{length, getD, set, replicate, length-set, length-replicate}
+use lib.ListN.{length, set, length-set}
 use lib.Seq.{getD-set-same, getD-set-other}
 use borrow.Author.Tests.{ltb-true, lt-ltb, le-leb, eq-eqb, ne-eqb, eqb-true, eqb-false}
 use Rattle.basics.specs.Choice.{pick, pick-cases, not-both, refuted, and-left, and-right, or-cases}
 use Rattle.basics.specs.Every.{all-at, all-of}
 use Rattle.cpuset.specs.Set.{Set, room, hasOf, noneOf, onlyOf, belowOf, withOf, withoutOf, sameOf, withinOf, countOf}
-use Rattle.cpuset.specs.Laws.{has-room, has-none, has-only, has-with, has-without, has-below, set-none, set-only, set-below, set-with, set-without, set-within, same-members, same-is, same-eq, none-has, within-has, within-of, count-none, count-with}
+use Rattle.cpuset.specs.Laws.{has-room, has-none, has-only, has-with, has-without, has-below, set-only, set-below, set-with, set-without, set-within, same-members, same-is, same-eq, none-has, within-has, within-of, count-none, count-with}
 use Rattle.cpuset.specs.declared.CpuSet.{CpuSet}
 use Rattle.board.specs.Description.{mostComponents, mostCpus, componentOf, numberedOf, goodEntry}
 use Rattle.board.specs.declared.Board.{Board}
 use Rattle.board.specs.declared.Component.{Component}
 use Rattle.board.proofs.Laws.{stands-counted}
 use Rattle.board_record.proofs.Laws.{room-most}
-use Rattle.board_record.specs.Record.{subjectOf, isAbout, isFor, holdingOf, goesAlone, isPending, versionOf}
-use Rattle.board_record.specs.WellFormed.{poweredStand, imageStands, imageAt, imagesStand, subjectStands, standsBy, stateStands, heldBy, heldStand, mayReset, keepsEntries, keptOf, entryStands, entryAt, entriesStand, wellFormed}
-use Rattle.board_record.proofs.Clauses.{WellFormed, Sized, told, shown, powered-within, powered-set, powered-below, held-within, entries-zero}
+use Rattle.board_record.specs.Record.{subjectOf, isAbout, holdingOf, goesAlone, isPending, versionOf}
+use Rattle.board_record.specs.WellFormed.{poweredStand, imageStands, imageAt, imagesStand, subjectStands, standsBy, stateStands, heldStand, mayReset, keepsEntries, keptOf, entryStands, entryAt, entriesStand, wellFormed}
+use Rattle.board_record.proofs.Clauses.{WellFormed, Sized, told, shown, powered-within, powered-set, held-within, entries-zero}
 use Rattle.board_record.specs.declared.Record.{Record}
 use Rattle.board_record.specs.declared.State.{State}
 use Rattle.board_record.specs.declared.State.the-variants.{Idle, Preparing, HalfPrepared, Ready, Gathering, Together, Alone, HalfActivated, Dead}
-use Rattle.board_record.specs.declared.Holding.the-variants.{Nobody, One, Part, All}
+use Rattle.board_record.specs.declared.Holding.the-variants.{Nobody, One}
 use Rattle.board_record.specs.declared.Subject.{Subject}
 use Rattle.board_record.specs.declared.Subject.the-variants as subject
 use Rattle.rules.specs.declared.Arrival.{Arrival}

@@ -1,12 +1,11 @@
 -- A refused event changes nothing, and refusal 9 comes only to a record that is not well formed. Assumes nothing.
 use Prim.Native.Nat.{ℕ}
-use mathlib.Core.Path.{_≡_, refl, ap, subst, _∙_}
-use mathlib.Core.Bool.{true, false}
+use mathlib.Core.Path.{_≡_, refl, ap, subst}
+use mathlib.Core.Bool.{true}
 use mathlib.Core.List.{List}
 use native.Mathlib.Omega.{arith}
 use lib.ListN.{length}
 use Rattle.basics.specs.Choice.{not-both}
-use Rattle.cpuset.specs.Set.{noneOf}
 use Rattle.cpuset.specs.Laws.{has-none}
 use Rattle.board_record.specs.WellFormed.{wellFormed}
 use Rattle.board_record.specs.declared.Record.{Record}

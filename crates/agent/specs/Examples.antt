@@ -4,7 +4,7 @@ use Prim.Native.Nat.{ℕ, _+_, _-_, _^_}
 use mathlib.Core.Path.{_≡_, refl}
 use mathlib.Core.Bool.{Bool, true, false, _&&_}
 use mathlib.Core.List.{List, [], _∷_, _++_}
-use lib.Dec.{eqb, leb, ltb}
+use lib.Dec.{eqb}
 use lib.ListN.{set, replicate}
 use Rattle.basics.specs.Every.{allBelow, allHold}
 use Rattle.basics.specs.Places.{firsts}
@@ -25,7 +25,6 @@ use Rattle.rules.specs.Reports.{primeAllows, activateAllows, primeReportOf, act
 use Rattle.rules.specs.Decide.{decideOf}
 use Rattle.rules.specs.declared.Event.{Event}
 use Rattle.rules.specs.declared.Event.the-variants as event
-use Rattle.rules.specs.declared.Registers.{Registers}
 use Rattle.agent.specs.Perform.{refusedOf, acceptedOf, informedOf, joinedOf, settledOf, poweredOf, reportedOf, afterPrime, afterActivate, isDone, forgottenOf, endedOf, releasedOf, arrivedOf}
 use Rattle.agent.specs.Step.{stepOf}
 use Rattle.agent.specs.declared.Caller.{Caller}

@@ -1,5 +1,4 @@
 // The two resume tables.
-use crate::Answer;
 use crate::Outcome;
 use crate::Release;
 use board_record::Record;

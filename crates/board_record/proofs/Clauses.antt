@@ -1,10 +1,9 @@
 -- What a well-formed record tells, fact by fact, and how it is shown. Assumes nothing.
 use Prim.Native.Nat.{ℕ, _<_}
-use mathlib.Core.Path.{_≡_, refl, sym, _∙_}
-use mathlib.Core.Bool.{Bool, true, false, not, _&&_}
-use mathlib.Core.List.{List}
+use mathlib.Core.Path.{_≡_, sym, _∙_}
+use mathlib.Core.Bool.{Bool, true, not, _&&_}
 use lib.Dec.{eqb, ltb}
-use lib.ListN.{length, getD, replicate, getD-replicate}
+use lib.ListN.{length, replicate, getD-replicate}
 use borrow.Author.Tests.{ltb-true}
 use Rattle.basics.specs.Choice.{not-both, and-left, and-right}
 use Rattle.basics.specs.Every.{all-of}

@@ -4,19 +4,19 @@ use mathlib.Core.Path.{_≡_, refl}
 use mathlib.Core.Bool.{true, false}
 use native.Mathlib.Omega.{arith}
 use lib.Dec.{eqb, ltb}
-use lib.ListN.{replicate, getD-replicate}
+use lib.ListN.{replicate}
 use borrow.Author.Tests.{eqb-true, lt-ltb}
 use Rattle.basics.specs.Choice.{by, and-right}
-use Rattle.basics.specs.Every.{allBelow, all-of}
+use Rattle.basics.specs.Every.{allBelow}
 use Rattle.cpuset.specs.Set.{room, noneOf, onlyOf, belowOf, sameOf}
-use Rattle.cpuset.specs.Laws.{has-none, has-only, has-below, set-only, same-eq, within-of}
+use Rattle.cpuset.specs.Laws.{has-only, has-below, set-only, same-eq, within-of}
 use Rattle.board.specs.Description.{mostComponents, mostCpus}
 use Rattle.board.specs.Packed.{boardStands}
 use Rattle.board.specs.declared.Board.{Board}
 use Rattle.board.proofs.Laws.{stands-counted}
 use Rattle.board_record.proofs.Clauses.{entries-zero}
 use Rattle.board_record.specs.Record.{freshOf}
-use Rattle.board_record.specs.WellFormed.{poweredStand, imageStands, imagesStand, stateStands, heldStand, entryStands, entriesStand, restStands, wellFormed}
+use Rattle.board_record.specs.WellFormed.{poweredStand, imageStands, imagesStand, stateStands, heldStand, restStands, wellFormed}
 
 pub room-most : room ≡ mostCpus
 unfolding room
