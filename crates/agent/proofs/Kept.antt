@@ -1,25 +1,25 @@
--- Every step keeps a well-formed record well formed, and a refused event changes nothing. Assumes nothing.
+-- Every step keeps a well-formed record well formed. Assumes nothing.
 use Prim.Native.Nat.{ℕ, _<_}
 use mathlib.Core.Path.{_≡_, refl, sym, ap, subst, _∙_}
 use mathlib.Core.Bool.{Bool, true, false, not, _&&_, and-false, and-true, or-false, or-true}
-use mathlib.Core.List.{List}
+use mathlib.Core.List.{List, [], _∷_}
 use native.Mathlib.Omega.{arith}
 use lib.Dec.{eqb, leb, ltb}
 use lib.ListN.{length, set, length-set}
 use lib.Seq.{getD-set-same, getD-set-other}
-use borrow.Author.Tests.{ltb-true, lt-ltb, le-leb, eq-eqb, ne-eqb, eqb-true, eqb-false}
+use borrow.Author.Tests.{lt-ltb, le-leb, eq-eqb, ne-eqb, eqb-true, eqb-false}
 use Rattle.basics.specs.Choice.{pick, pick-cases, not-both, refuted, and-left, and-right, or-cases}
 use Rattle.basics.specs.Every.{all-at, all-of}
 use Rattle.cpuset.specs.Set.{Set, room, hasOf, noneOf, onlyOf, belowOf, withOf, withoutOf, sameOf, withinOf, countOf}
 use Rattle.cpuset.specs.Laws.{has-room, has-none, has-only, has-with, has-without, has-below, set-only, set-below, set-with, set-without, set-within, same-members, same-is, same-eq, none-has, within-has, within-of, count-none, count-with}
 use Rattle.cpuset.specs.declared.CpuSet.{CpuSet}
-use Rattle.board.specs.Description.{mostComponents, mostCpus, componentOf, numberedOf, goodEntry}
+use Rattle.board.specs.Description.{mostComponents, mostCpus, numberedOf, isCapable, mayReset, goodEntry}
 use Rattle.board.specs.declared.Board.{Board}
 use Rattle.board.specs.declared.Component.{Component}
 use Rattle.board.proofs.Laws.{stands-counted}
 use Rattle.board_record.proofs.Laws.{room-most}
-use Rattle.board_record.specs.Record.{subjectOf, isAbout, holdingOf, goesAlone, isPending, versionOf}
-use Rattle.board_record.specs.WellFormed.{poweredStand, imageStands, imageAt, imagesStand, subjectStands, standsBy, stateStands, heldStand, mayReset, keepsEntries, keptOf, entryStands, entryAt, entriesStand, wellFormed}
+use Rattle.board_record.specs.Record.{subjectOf, isAbout, holdingOf, skipsRendezvous, isAlone, isPending, versionOf}
+use Rattle.board_record.specs.WellFormed.{poweredStand, imageStands, imageAt, imagesStand, subjectStands, standsBy, stateStands, heldStand, keepsEntries, keepersOf, entryStands, entryAt, entriesStand, wellFormed}
 use Rattle.board_record.proofs.Clauses.{WellFormed, Sized, told, shown, powered-within, powered-set, held-within, entries-zero}
 use Rattle.board_record.specs.declared.Record.{Record}
 use Rattle.board_record.specs.declared.State.{State}
@@ -33,16 +33,15 @@ use Rattle.rules.specs.declared.Move.{Move}
 use Rattle.rules.specs.declared.Move.the-variants as move
 use Rattle.rules.specs.Decide.{decideOf}
 use Rattle.rules.specs.declared.Image.{Image}
-use Rattle.rules.specs.Moves.{isCapable, isAlone}
 use Rattle.rules.specs.Calls.{arrivalOf, entryRight}
 use Rattle.rules.specs.declared.Report.{Report}
 use Rattle.rules.specs.declared.Waking.{Waking}
 use Rattle.rules.specs.declared.cells.PowerCell.the-variants as power
 use Rattle.rules.specs.Table.{ruleOf}
 use Rattle.rules.specs.Reports.{isPriming, isActivating, activateAllows}
-use Rattle.rules.proofs.Guards.{Primable, Gatherable, Skippable, Primes, Skips, Joins, TurnsOff, TurnsOn, EndsPrime, EndsActivate, Arrives, Facts, facts, decide-guard}
-use Rattle.agent.specs.Perform.{refusedOf, acceptedOf, informedOf, joinedOf, settledOf, poweredOf, afterPrime, afterActivate, isDone, forgottenOf, endedOf, arrivedOf, performOf}
-use Rattle.agent.specs.Step.{stepOf}
+use Rattle.rules.proofs.Guards.{Primable, Gatherable, Skippable, Primes, Skips, Joins, TurnsOff, TurnsOn, EndsPrime, EndsActivate, NotesImage, Facts, facts, decide-guard}
+use Rattle.agent.specs.Perform.{refusedOf, acceptedOf, informedOf, joinedOf, settledOf, poweredOf, afterPrime, afterActivate, isDone, forgottenOf, endedOf, withImageOf, performOf}
+use Rattle.agent.specs.Step.{stepOf, after}
 
 -- ---- sets
 
@@ -122,7 +121,7 @@ entries-put first last kept kept′ entry context i v w a b others here before =
 -- ---- the tables of the images
 images-put : (b : Board) (pending : List Bool) (version : List ℕ) (i : ℕ) (now : Bool) (v : ℕ)
     → length pending ≡ mostComponents → length version ≡ mostComponents
-    → imageStands (ltb i (b .components)) (componentOf b i .capable) now v ≡ true
+    → imageStands (isCapable b i) now v ≡ true
     → imagesStand b pending version ≡ true → imagesStand b (set pending i now) (set version i v) ≡ true
 unfolding imagesStand
 images-put b pending version i now v a c here before =
@@ -136,7 +135,7 @@ images-put b pending version i now v a c here before =
 other-image : (b : Board) (pending : List Bool) (version : List ℕ) (alone : Bool) (s : Subject) (i : ℕ) (now : Bool) (v : ℕ) → isAbout s i ≡ false
     → standsBy b pending version alone s ≡ true → standsBy b (set pending i now) (set version i v) alone s ≡ true
 other-image b pending version alone subject.Nothing i now v o e = refl
-other-image b pending version alone (subject.Component c) i now v o e =
+other-image b pending version alone (subject.Of c) i now v o e =
     let d = eqb-false c i o in rw (getD-set-other pending i c now false d, getD-set-other version i c v 0 d) e
 
 -- ---- states
@@ -164,7 +163,7 @@ prime-rests (Alone c) id p = absurd p
 prime-rests (HalfActivated c) id p = absurd p
 prime-rests Dead id p = absurd p
 
-skip-rests : (s : State) (id : ℕ) → Skippable s id → (holdingOf s ≡ Nobody) × (subjectOf s ≡ subject.Component id)
+skip-rests : (s : State) (id : ℕ) → Skippable s id → (holdingOf s ≡ Nobody) × (subjectOf s ≡ subject.Of id)
 skip-rests Idle id p = absurd p
 skip-rests (Preparing c) id p = absurd p
 skip-rests (HalfPrepared c) id p = absurd p
@@ -175,7 +174,7 @@ skip-rests (Alone c) id p = absurd p
 skip-rests (HalfActivated c) id p = (refl, rw p)
 skip-rests Dead id p = absurd p
 
-gather-subject : (s : State) (id : ℕ) → Gatherable s id → subjectOf s ≡ subject.Component id
+gather-subject : (s : State) (id : ℕ) → Gatherable s id → subjectOf s ≡ subject.Of id
 gather-subject Idle id p = absurd p
 gather-subject (Preparing c) id p = absurd p
 gather-subject (HalfPrepared c) id p = absurd p
@@ -188,7 +187,7 @@ gather-subject Dead id p = absurd p
 
 -- those that gathered with may_reset are those that are held
 gather-kept : (b : Board) (s : State) (id : ℕ) (on held : CpuSet) → Gatherable s id → heldStand s on held ≡ true
-    → keptOf b s held ≡ pick (mayReset b id) held noneOf
+    → keepersOf b s held ≡ pick (mayReset b id) held noneOf
 unfolding heldStand
 gather-kept b Idle id on held p h = absurd p
 gather-kept b (Preparing c) id on held p h = absurd p
@@ -204,9 +203,9 @@ gather-kept b (Alone c) id on held p h = absurd p
 gather-kept b (HalfActivated c) id on held p h = absurd p
 gather-kept b Dead id on held p h = absurd p
 
-priming-is : (s : State) (id : ℕ) → isPriming s id ≡ true → subjectOf s ≡ subject.Component id
+priming-is : (s : State) (id : ℕ) → isPriming s id ≡ true → subjectOf s ≡ subject.Of id
 priming-is Idle id p = absurd (not-both p refl)
-priming-is (Preparing c) id p = ap subject.Component (eqb-true c id p)
+priming-is (Preparing c) id p = ap subject.Of (eqb-true c id p)
 priming-is (HalfPrepared c) id p = absurd (not-both p refl)
 priming-is (Ready c) id p = absurd (not-both p refl)
 priming-is (Gathering c) id p = absurd (not-both p refl)
@@ -215,21 +214,21 @@ priming-is (Alone c) id p = absurd (not-both p refl)
 priming-is (HalfActivated c) id p = absurd (not-both p refl)
 priming-is Dead id p = absurd (not-both p refl)
 
-activating-is : (s : State) (id : ℕ) → isActivating s id ≡ true → (subjectOf s ≡ subject.Component id) × (goesAlone s ≡ isAlone s)
+activating-is : (s : State) (id : ℕ) → isActivating s id ≡ true → (subjectOf s ≡ subject.Of id) × (skipsRendezvous s ≡ isAlone s)
 activating-is Idle id p = absurd (not-both p refl)
 activating-is (Preparing c) id p = absurd (not-both p refl)
 activating-is (HalfPrepared c) id p = absurd (not-both p refl)
 activating-is (Ready c) id p = absurd (not-both p refl)
 activating-is (Gathering c) id p = absurd (not-both p refl)
-activating-is (Together c) id p = (ap subject.Component (eqb-true c id p), refl)
-activating-is (Alone c) id p = (ap subject.Component (eqb-true c id p), refl)
+activating-is (Together c) id p = (ap subject.Of (eqb-true c id p), refl)
+activating-is (Alone c) id p = (ap subject.Of (eqb-true c id p), refl)
 activating-is (HalfActivated c) id p = absurd (not-both p refl)
 activating-is Dead id p = absurd (not-both p refl)
 
 -- what the state's component is, whatever the state
 subject-told : (b : Board) (pending : List Bool) (version : List ℕ) (s : State) (c : ℕ)
-    → stateStands b pending version s ≡ true → subjectOf s ≡ subject.Component c
-    → subjectStands (numberedOf b c) (goesAlone s) (isPending pending c) (versionOf version c) ≡ true
+    → stateStands b pending version s ≡ true → subjectOf s ≡ subject.Of c
+    → subjectStands (numberedOf b c) (skipsRendezvous s) (isPending pending c) (versionOf version c) ≡ true
 unfolding stateStands
 subject-told b pending version s c e q = rw q at e
 
@@ -275,13 +274,13 @@ module _ (r : Record) (w : WellFormed r) (z : Sized r) where
   held-on = held-within (r .state) (r .on) (r .held) on-set (w .held)
 
   -- what the state's component is
-  mine : (c : ℕ) → subjectOf (r .state) ≡ subject.Component c
-      → subjectStands (numberedOf (r .board) c) (goesAlone (r .state)) (isPending (r .pending) c) (versionOf (r .version) c) ≡ true
+  mine : (c : ℕ) → subjectOf (r .state) ≡ subject.Of c
+      → subjectStands (numberedOf (r .board) c) (skipsRendezvous (r .state)) (isPending (r .pending) c) (versionOf (r .version) c) ≡ true
   mine c q = subject-told (r .board) (r .pending) (r .version) (r .state) c (w .state) q
 
-  calm : (c : ℕ) → subjectOf (r .state) ≡ subject.Component c
+  calm : (c : ℕ) → subjectOf (r .state) ≡ subject.Of c
       → subjectStands (numberedOf (r .board) c) false (isPending (r .pending) c) (versionOf (r .version) c) ≡ true
-  calm c q = subject-calm (numberedOf (r .board) c) (goesAlone (r .state)) _ _ (mine c q)
+  calm c q = subject-calm (numberedOf (r .board) c) (skipsRendezvous (r .state)) _ _ (mine c q)
 
   -- in a state that holds nobody
   nobody : holdingOf (r .state) ≡ Nobody → r .held ≡ noneOf
@@ -291,8 +290,8 @@ module _ (r : Record) (w : WellFormed r) (z : Sized r) where
   -- a caller joins: what has to be seen of the next state
   join-kept : (s : State) (a : Arrival) → stateStands (r .board) (r .pending) (r .version) s ≡ true
       → heldStand s (r .on) (withOf (r .held) (a .cpu)) ≡ true
-      → ((j : ℕ) → (j ≡ a .cpu → ⊥) → hasOf (keptOf (r .board) s (withOf (r .held) (a .cpu))) j ≡ hasOf (keptOf (r .board) (r .state) (r .held)) j)
-      → entryStands (r .board .first) (r .board .last) (hasOf (keptOf (r .board) s (withOf (r .held) (a .cpu))) (a .cpu)) (a .entry) (a .context) ≡ true
+      → ((j : ℕ) → (j ≡ a .cpu → ⊥) → hasOf (keepersOf (r .board) s (withOf (r .held) (a .cpu))) j ≡ hasOf (keepersOf (r .board) (r .state) (r .held)) j)
+      → entryStands (r .board .first) (r .board .last) (hasOf (keepersOf (r .board) s (withOf (r .held) (a .cpu))) (a .cpu)) (a .entry) (a .context) ≡ true
       → WellFormed (joinedOf r s a)
   unfolding joinedOf
   join-kept s a state held others here = record {
@@ -301,7 +300,7 @@ module _ (r : Record) (w : WellFormed r) (z : Sized r) where
     images = w .images;
     state = state;
     held = held;
-    entries = entries-put _ _ (keptOf (r .board) (r .state) (r .held)) _ (r .entry) (r .context) (a .cpu) (a .entry) (a .context) (z .entry) (z .context) others here (w .entries);
+    entries = entries-put _ _ (keepersOf (r .board) (r .state) (r .held)) _ (r .entry) (r .context) (a .cpu) (a .entry) (a .context) (z .entry) (z .context) others here (w .entries);
   }
 
   -- one that is held alone, from a state that held nobody to one that keeps no entries
@@ -330,7 +329,7 @@ module _ (r : Record) (w : WellFormed r) (z : Sized r) where
       let rests = skip-rests (r .state) (call .x1) (g .state) in
       subst (λ (x : Arrival). WellFormed (joinedOf r (Alone (x .component)) x)) (sym (g .arrival))
       (alone-kept (Alone (call .x1)) (arrivalOf call false) (rests .0) (g .by .powered)
-      (subject-alone (numberedOf (r .board) (call .x1)) (goesAlone (r .state)) _ _ (mine (call .x1) (rests .1)) (g .optional)) refl refl refl refl)
+      (subject-alone (numberedOf (r .board) (call .x1)) (skipsRendezvous (r .state)) _ _ (mine (call .x1) (rests .1)) (g .optional)) refl refl refl refl)
 
   -- one more gathers, to a state of the same component that keeps its entries too
   gathered : (e : Event) (a : Arrival) (all : Bool) (g : Joins r e a all) (s : State)
@@ -375,9 +374,9 @@ module _ (r : Record) (w : WellFormed r) (z : Sized r) where
     entries = rw (resting (r .board) s none) (entries-zero (r .board .first) (r .board .last));
   }
 
-  withdraw-kept : WellFormed (settledOf r Idle)
+  idle-kept : WellFormed (settledOf r Idle)
   unfolding stateStands
-  withdraw-kept = settled-kept Idle refl refl
+  idle-kept = settled-kept Idle refl refl
 
   end-prime-kept : (e : Event) (p : Report) → EndsPrime r e p → WellFormed (settledOf r (afterPrime p))
   unfolding afterPrime stateStands
@@ -433,7 +432,7 @@ module _ (r : Record) (w : WellFormed r) (z : Sized r) where
       let c = numberedOf (r .board) (p .component) in
       let is = activating-is (r .state) (p .component) (g .running) in
       let alone : isAlone (r .state) ≡ true = sym (ap (activateAllows (isAlone (r .state)) (c .«may_reset»)) q) ∙ g .allowed in
-      subject-optional c (goesAlone (r .state)) _ _ (mine (p .component) (is .0)) (is .1 ∙ alone)
+      subject-optional c (skipsRendezvous (r .state)) _ _ (mine (p .component) (is .0)) (is .1 ∙ alone)
 
   -- an activation ended: the state
   ended-state : (e : Event) (p : Report) → EndsActivate r e p → WellFormed (settledOf r (afterActivate p))
@@ -443,7 +442,7 @@ module _ (r : Record) (w : WellFormed r) (z : Sized r) where
       let is = activating-is (r .state) c (g .running) in
       pick-cases (λ (s : State). WellFormed (settledOf r s)) (eqb (p .code) 1) _ _
       (λ t. settled-kept (HalfActivated c)
-      (subject-alone (numberedOf (r .board) c) (goesAlone (r .state)) _ _ (mine c (is .0)) (again-optional e p g (eqb-true (p .code) 1 t))) refl)
+      (subject-alone (numberedOf (r .board) c) (skipsRendezvous (r .state)) _ _ (mine c (is .0)) (again-optional e p g (eqb-true (p .code) 1 t))) refl)
       (λ t. pick-cases (λ (s : State). WellFormed (settledOf r s)) (eqb (p .code) 2) _ _ (λ u. settled-kept (Ready c) (calm c (is .0)) refl)
       (λ u. pick-cases (λ (s : State). WellFormed (settledOf r s)) (eqb (p .code) 5) _ _ (λ v. settled-kept Dead refl refl) (λ v. settled-kept Idle refl refl)))
 
@@ -459,23 +458,18 @@ forgotten-kept r w z none id = record {
   entries = w .entries;
 }
 
-arrived-kept : (r : Record) (e : Event) (i : Image) → WellFormed r → Sized r → Arrives r e i → WellFormed (arrivedOf r i)
-unfolding arrivedOf imageStands isCapable stateStands numberedOf
-arrived-kept r e i w z g =
-    let id = i .component in
-    let exists = and-left (ltb id (r .board .components)) (numberedOf (r .board) id .capable) (g .capable) in
-    let able = and-right (ltb id (r .board .components)) (numberedOf (r .board) id .capable) (g .capable) in
-    let few = stands-counted (r .board) (w .board) .fewComponents in
-    let l : id < mostComponents = omega (arith, ltb-true id (r .board .components) exists) in
-    let known : componentOf (r .board) id .capable ≡ true = rw (lt-ltb id mostComponents l) at able in
-    record {
-      board = w .board;
-      powered = w .powered;
-      images = images-put (r .board) (r .pending) (r .version) id true (i .version) (z .pending) (z .version) (rw (exists, known)) (w .images);
-      state = other-image (r .board) (r .pending) (r .version) (goesAlone (r .state)) (subjectOf (r .state)) id true (i .version) (g .other) (w .state);
-      held = w .held;
-      entries = w .entries;
-    }
+image-kept : (r : Record) (e : Event) (i : Image) → WellFormed r → Sized r → NotesImage r e i → WellFormed (withImageOf r i)
+unfolding withImageOf imageStands stateStands
+image-kept r e i w z g = record {
+  board = w .board;
+  powered = w .powered;
+  images = images-put (r .board) (r .pending) (r .version) (i .component) true (i .version) (z .pending) (z .version) (g .capable) (w .images);
+  state =
+      other-image (r .board) (r .pending) (r .version) (skipsRendezvous (r .state)) (subjectOf (r .state)) (i .component) true (i .version) (g .other)
+      (w .state);
+  held = w .held;
+  entries = w .entries;
+}
 
 -- ---- the lengths of the tables
 joined-sized : (r : Record) (s : State) (a : Arrival) → Sized r → Sized (joinedOf r s a)
@@ -500,9 +494,9 @@ forgotten-sized r id z = record {
   context = z .context;
 }
 
-arrived-sized : (r : Record) (i : Image) → Sized r → Sized (arrivedOf r i)
-unfolding arrivedOf
-arrived-sized r i z = record {
+image-sized : (r : Record) (i : Image) → Sized r → Sized (withImageOf r i)
+unfolding withImageOf
+image-sized r i z = record {
   pending = length-set (r .pending) (i .component) true ∙ z .pending;
   version = length-set (r .version) (i .component) (i .version) ∙ z .version;
   entry = z .entry;
@@ -544,9 +538,9 @@ powered-sized : (r : Record) (on : CpuSet) → Sized r → Sized (poweredOf r on
 unfolding poweredOf
 powered-sized r on z = record { pending = z .pending; version = z .version; entry = z .entry; context = z .context }
 
-noted : (r : Record) (informed : Bool) → WellFormed r → Sized r → Keeps (informedOf r informed)
+noted : (r : Record) → WellFormed r → Sized r → Keeps (informedOf r)
 unfolding informedOf
-noted r informed w z = (
+noted r w z = (
   record { board = w .board; powered = w .powered; images = w .images; state = w .state; held = w .held; entries = w .entries },
   record { pending = z .pending; version = z .version; entry = z .entry; context = z .context },
 )
@@ -555,19 +549,19 @@ performed : (r : Record) (e : Event) (m : Move) → WellFormed r → Sized r →
 unfolding refusedOf acceptedOf
 performed r e (move.Refuse x) w z g = (w, z)
 performed r e (move.Return x) w z g = (w, z)
-performed r e move.NoteInfo w z g = noted r true w z
+performed r e move.NoteInfo w z g = noted r w z
 performed r e (move.StartPrime a) w z g = (prime-kept r w z e a g, joined-sized r _ a z)
 performed r e (move.Gather a) w z g = (gather-kept-all r w z e a g, joined-sized r _ a z)
 performed r e (move.StartTogether a) w z g = (together-kept r w z e a g, joined-sized r _ a z)
 performed r e (move.StartAlone a) w z g = (skip-kept r w z e a g, joined-sized r _ a z)
-performed r e move.Withdraw w z g = (withdraw-kept r w z, settled-sized r Idle z)
+performed r e move.ToIdle w z g = (idle-kept r w z, settled-sized r Idle z)
 performed r e (move.PowerOff cpu) w z g = (off-kept r w z e cpu g, powered-sized r _ z)
 performed r e (move.PowerOn x) w z g = (on-kept r w z e x g, powered-sized r _ z)
 performed r e (move.EndPrime p) w z g = (end-prime-kept r w z e p g, settled-sized r (afterPrime p) z)
 performed r e (move.EndActivate p) w z g = (ended-kept r e p w z g, ended-sized r p z)
-performed r e (move.Arrive i) w z g = (arrived-kept r e i w z g, arrived-sized r i z)
+performed r e (move.NoteImage i) w z g = (image-kept r e i w z g, image-sized r i z)
 
--- every step keeps a well-formed record well formed: on a board that started fresh refusal 9 never comes
+-- every step keeps a well-formed record well formed
 pub step-kept : (r : Record) (e : Event) (entries contexts : ℕ) → wellFormed r ≡ true → Sized r
     → (wellFormed (stepOf r e entries contexts .rec) ≡ true) × Sized (stepOf r e entries contexts .rec)
 unfolding stepOf
@@ -575,3 +569,8 @@ step-kept r e entries contexts w z =
     let m = decideOf r e entries contexts in
     let k = performed r e m (told r w) z (facts r e m (decide-guard r e entries contexts)) in
     (shown (performOf r m .rec) (k .0), k .1)
+
+-- and so do any events
+pub after-kept : (es : List Event) (r : Record) → wellFormed r ≡ true → Sized r → (wellFormed (after r es) ≡ true) × Sized (after r es)
+after-kept [] r w z = (w, z)
+after-kept (e ∷ es) r w z = let k = step-kept r e mostCpus mostCpus w z in after-kept es (stepOf r e mostCpus mostCpus .rec) (k .0) (k .1)

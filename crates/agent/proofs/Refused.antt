@@ -7,7 +7,12 @@ use native.Mathlib.Omega.{arith}
 use lib.ListN.{length}
 use Rattle.basics.specs.Choice.{not-both}
 use Rattle.cpuset.specs.Laws.{has-none}
+use Rattle.board.specs.Description.{mostCpus}
+use Rattle.board.specs.Packed.{boardStands}
+use Rattle.board.specs.declared.Board.{Board}
+use Rattle.board_record.specs.Record.{freshOf}
 use Rattle.board_record.specs.WellFormed.{wellFormed}
+use Rattle.board_record.proofs.Laws.{fresh-stands, fresh-sized}
 use Rattle.board_record.specs.declared.Record.{Record}
 use Rattle.rules.specs.Decide.{decideOf}
 use Rattle.rules.specs.declared.Event.{Event}
@@ -17,11 +22,12 @@ use Rattle.rules.specs.declared.Refusal.{Refusal}
 use Rattle.rules.specs.declared.Refusal.the-variants.{NotWellFormed}
 use Rattle.rules.proofs.Guards.{Guard, facts, decide-guard}
 use Rattle.agent.specs.Perform.{refusedOf, acceptedOf, performOf}
-use Rattle.agent.specs.Step.{stepOf, resumingOf, filled, entriesOf, contextsOf}
+use Rattle.agent.specs.Step.{stepOf, resumingOf, filled, entriesOf, contextsOf, after}
 use Rattle.agent.specs.declared.Answer.{Answer}
 use Rattle.agent.specs.declared.Outcome.{Outcome}
 use Rattle.agent.specs.declared.Outcome.the-variants.{Refused, Accepted}
 use Rattle.agent.proofs.Written.{written-nobody}
+use Rattle.agent.proofs.Kept.{after-kept}
 
 no-answer : {A : Type 0} (a : Answer) (x : Refusal) → Accepted a ≡ Refused x → A
 no-answer a x e = let z : _≡_ {A = ℕ} 0 1 = cc in absurd (omega arith)
@@ -36,12 +42,12 @@ refused-is r (move.StartPrime a) x e = no-answer _ x e
 refused-is r (move.Gather a) x e = no-answer _ x e
 refused-is r (move.StartTogether a) x e = no-answer _ x e
 refused-is r (move.StartAlone a) x e = no-answer _ x e
-refused-is r move.Withdraw x e = no-answer _ x e
+refused-is r move.ToIdle x e = no-answer _ x e
 refused-is r (move.PowerOff cpu) x e = no-answer _ x e
 refused-is r (move.PowerOn w) x e = no-answer _ x e
 refused-is r (move.EndPrime p) x e = no-answer _ x e
 refused-is r (move.EndActivate p) x e = no-answer _ x e
-refused-is r (move.Arrive i) x e = no-answer _ x e
+refused-is r (move.NoteImage i) x e = no-answer _ x e
 
 -- the tables where nobody resumes
 stays : (o : Outcome) (x : Refusal) (from table : List ℕ) → o ≡ Refused x → filled (resumingOf o) from table ≡ table
@@ -66,3 +72,8 @@ never-nine r e entries contexts w h =
     let m = decideOf r e entries contexts in
     let g = subst (Guard r e) (refused-is r m NotWellFormed h) (decide-guard r e entries contexts) in
     not-both w (facts r e (move.Refuse NotWellFormed) g refl)
+
+-- so it never comes to a board that started fresh, whatever happens
+pub fresh-never-nine : (b : Board) → boardStands b ≡ true → (es : List Event) (e : Event)
+    → stepOf (after (freshOf b) es) e mostCpus mostCpus .outcome ≡ Refused NotWellFormed → ⊥
+fresh-never-nine b s es e = never-nine (after (freshOf b) es) e mostCpus mostCpus (after-kept es (freshOf b) (fresh-stands b s) (fresh-sized b) .0)

@@ -9,8 +9,13 @@ use native.Mathlib.Omega.{arith}
 use lib.Seq.{set-out, getD-set-same, getD-set-other}
 use lib.ListN.{length, getD, set, length-set}
 use Rattle.basics.specs.Choice.{pick, yes, no, pick-cases}
-use Rattle.basics.specs.Order.{last-cases}
-use Rattle.agent.specs.Step.{written}
+use Rattle.basics.specs.Order.{lt-cases, last-cases}
+use Rattle.cpuset.specs.Set.{hasOf}
+use Rattle.cpuset.specs.Laws.{has-out}
+use Rattle.cpuset.specs.declared.CpuSet.{CpuSet}
+use Rattle.board.specs.Description.{mostCpus}
+use Rattle.board_record.proofs.Laws.{room-most}
+use Rattle.agent.specs.Step.{written, filled}
 
 -- ---- the loop: no place, a place more, the end
 pub written-none : (f : ℕ → Bool) (from table : List ℕ) → table ≡ written 0 f from table
@@ -25,7 +30,7 @@ pub written-no : (i : ℕ) (f : ℕ → Bool) (from table now : List ℕ) → no
 unfolding written
 written-no i f from table now e t = rw (add-one i, t, e)
 
-pub written-length : (n : ℕ) (f : ℕ → Bool) (from table : List ℕ) → length (written n f from table) ≡ length table
+written-length : (n : ℕ) (f : ℕ → Bool) (from table : List ℕ) → length (written n f from table) ≡ length table
 unfolding written
 written-length zero f from table = refl
 written-length (suc n) f from table =
@@ -53,7 +58,7 @@ written-nobody zero f from table h = refl
 written-nobody (suc n) f from table h = rw (h n) (written-nobody n f from table h)
 
 -- ---- what a client reads: the places from n on stay, and those below n are written or stay as f says
-pub written-far : (n : ℕ) (f : ℕ → Bool) (from table : List ℕ) (k : ℕ) → n ≤ k → getD (written n f from table) k 0 ≡ getD table k 0
+written-far : (n : ℕ) (f : ℕ → Bool) (from table : List ℕ) (k : ℕ) → n ≤ k → getD (written n f from table) k 0 ≡ getD table k 0
 unfolding written
 written-far zero f from table k h = refl
 written-far (suc n) f from table k h =
@@ -62,7 +67,7 @@ written-far (suc n) f from table k h =
     (λ t. getD-set-other (written n f from table) n k _ 0 (λ q. omega arith) ∙ e)
     (λ t. e)
 
-pub written-at : (n : ℕ) (f : ℕ → Bool) (from table : List ℕ) (k : ℕ) → k < n → k < length table → getD (written n f from table) k 0 ≡ pick (f k) (getD from k 0) (getD table k 0)
+written-at : (n : ℕ) (f : ℕ → Bool) (from table : List ℕ) (k : ℕ) → k < n → k < length table → getD (written n f from table) k 0 ≡ pick (f k) (getD from k 0) (getD table k 0)
 unfolding written
 written-at zero f from table k h b = absurd (not-suc-le-zero h)
 written-at (suc n) f from table k h b =
@@ -71,3 +76,10 @@ written-at (suc n) f from table k h b =
     (λ q. rw q (yes _ t (getD-set-same (written n f from table) n _ 0 (omega (arith, written-length n f from table)))))
     (λ l. getD-set-other (written n f from table) n k _ 0 (λ q. omega arith) ∙ written-at n f from table k l b))
     (λ t. last-cases h (λ q. rw q (no _ t (written-far n f from table n (omega arith)))) (λ l. written-at n f from table k l b))
+
+-- in a resume table each place holds what its resuming CPU is given, or what it held
+pub filled-at : (cpus : CpuSet) (from table : List ℕ) (k : ℕ) → k < length table
+    → getD (filled cpus from table) k 0 ≡ pick (hasOf cpus k) (getD from k 0) (getD table k 0)
+filled-at cpus from table k l =
+    lt-cases k mostCpus (λ h. written-at mostCpus (hasOf cpus) from table k h l)
+    (λ h. no _ (has-out cpus k (omega (arith, room-most))) (written-far mostCpus (hasOf cpus) from table k h))

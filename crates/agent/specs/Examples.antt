@@ -1,32 +1,31 @@
--- Document 01's bench examples of the agent (marked P), and each refusal of an event once: one claim over one list.
+-- Document 01's bench examples of the agent (marked P), the postponed one, and every refusal of an event: one claim over one list.
 -- Assumes nothing.
 use Prim.Native.Nat.{ℕ, _+_, _-_, _^_}
 use mathlib.Core.Path.{_≡_, refl}
 use mathlib.Core.Bool.{Bool, true, false, _&&_}
 use mathlib.Core.List.{List, [], _∷_, _++_}
 use lib.Dec.{eqb}
-use lib.ListN.{set, replicate}
+use lib.ListN.{replicate}
 use Rattle.basics.specs.Every.{allBelow, allHold}
 use Rattle.basics.specs.Places.{firsts}
 use Rattle.cpuset.specs.Bit.{bit}
 use Rattle.cpuset.specs.Tally.{tally}
 use Rattle.cpuset.specs.Set.{room, hasOf, noneOf, onlyOf, unionOf, lessOf, belowOf, sameOf, countOf}
-use Rattle.board.specs.Description.{blank, numberedOf, goodEntry, withinLimit, judgedOf}
+use Rattle.board.specs.Description.{mostCpus, blank, numberedOf, isCapable, goodEntry, withinLimit, judgedOf}
 use Rattle.board.specs.Packed.{writableOf, boardStands}
 use Rattle.board.specs.declared.Board.{Board}
 use Rattle.board.specs.declared.Component.{Component}
 use Rattle.board_record.specs.Record.{freshOf}
-use Rattle.board_record.specs.WellFormed.{poweredStand, imageStands, imagesStand, subjectStands, stateStands, heldStand, entryStands, entriesStand, restStands, wellFormed}
-use Rattle.board_record.specs.declared.Record.{Record}
-use Rattle.rules.specs.Moves.{minusOf, numberOf, isCapable}
+use Rattle.board_record.specs.WellFormed.{poweredStand, imageStands, imagesStand, subjectStands, stateStands, heldStand, entryStands, entriesStand, workStands, restStands, wellFormed}
+use Rattle.rules.specs.Statuses.{minusOf, numberOf}
 use Rattle.rules.specs.Numbers.{versionNumber, featuresNumber, infoNumber, inventoryNumber, primeNumber, activateNumber, cancelNumber, offNumber, onNumber, decodeOf}
 use Rattle.rules.specs.Calls.{returned, featuresOf, infoOf, lowestFirst, describedOf, inventoryOf, arrivalOf, mayPrime, tryPrimeOf, trySameOf, skipRight, fieldsRight, entryRight, joinOf, tryActivateOf, cancelOf, offFree, onOf, answerOf, callOf}
 use Rattle.rules.specs.Reports.{primeAllows, activateAllows, primeReportOf, activateReportOf, imageOf}
 use Rattle.rules.specs.Decide.{decideOf}
 use Rattle.rules.specs.declared.Event.{Event}
 use Rattle.rules.specs.declared.Event.the-variants as event
-use Rattle.agent.specs.Perform.{refusedOf, acceptedOf, informedOf, joinedOf, settledOf, poweredOf, reportedOf, afterPrime, afterActivate, isDone, forgottenOf, endedOf, releasedOf, arrivedOf}
-use Rattle.agent.specs.Step.{stepOf}
+use Rattle.agent.specs.Perform.{refusedOf, acceptedOf, informedOf, joinedOf, settledOf, poweredOf, reportedOf, afterPrime, afterActivate, isDone, forgottenOf, endedOf, releasedOf, withImageOf}
+use Rattle.agent.specs.Step.{stepOf, after}
 use Rattle.agent.specs.declared.Caller.{Caller}
 use Rattle.agent.specs.declared.Caller.the-variants as caller
 use Rattle.agent.specs.declared.Outcome.{Outcome}
@@ -70,11 +69,11 @@ activate cpu c = call cpu activateNumber c 0 0x1000 0
 abbrev switchOn : ℕ → ℕ → Event
 switchOn cpu target = call cpu onNumber target 0x1FFC 7 0
 
--- component c is made ready on a fresh board, with these events before it
+-- the events that make component c ready
 abbrev ready : ℕ → List Event
 ready c = image c 5 ∷ prime c ∷ primed c 0 ∷ []
 
--- ---- answers
+-- ---- answers: 0 and the refusal's number, 1 and X0, or one number for each other caller's part
 abbrev told : Caller → List ℕ
 told caller.Nothing = 6 ∷ []
 told (caller.Returned x) = 1 ∷ x .x0 ∷ []
@@ -93,14 +92,9 @@ same [] (y ∷ ys) = false
 same (x ∷ xs) [] = false
 same (x ∷ xs) (y ∷ ys) = eqb x y && same xs ys
 
--- the record after some events, each accepted or not
-abbrev after : Record → List Event → Record
-after r [] = r
-after r (e ∷ es) = after (stepOf r e 4 4 .rec) es
-
 -- what a fresh board answers to an event after others
 abbrev answer : List Event → Event → List ℕ
-answer es e = answered (stepOf (after (freshOf board) es) e 4 4 .outcome)
+answer es e = answered (stepOf (after (freshOf board) es) e mostCpus mostCpus .outcome)
 
 abbrev says : List Event → Event → ℕ → Bool
 says es e x0 = same (answer es e) (1 ∷ x0 ∷ [])
@@ -122,14 +116,14 @@ x1Of (Accepted a) = by (a .caller)
     by caller.Gone = 0
 
 unfoldable pub examples : List Bool
-unfolding allBelow firsts bit tally room hasOf noneOf onlyOf unionOf lessOf belowOf sameOf countOf numberedOf goodEntry withinLimit judgedOf writableOf boardStands freshOf poweredStand imageStands imagesStand subjectStands stateStands heldStand entryStands entriesStand restStands wellFormed minusOf isCapable decodeOf returned featuresOf infoOf lowestFirst describedOf inventoryOf arrivalOf mayPrime tryPrimeOf trySameOf skipRight fieldsRight entryRight joinOf tryActivateOf cancelOf offFree onOf answerOf callOf primeAllows activateAllows primeReportOf activateReportOf imageOf decideOf refusedOf acceptedOf informedOf joinedOf settledOf poweredOf reportedOf afterPrime afterActivate isDone forgottenOf endedOf releasedOf arrivedOf stepOf
+unfolding allBelow firsts bit tally room hasOf noneOf onlyOf unionOf lessOf belowOf sameOf countOf numberedOf goodEntry withinLimit judgedOf writableOf boardStands freshOf poweredStand imageStands imagesStand subjectStands stateStands heldStand entryStands entriesStand workStands restStands wellFormed minusOf isCapable decodeOf returned featuresOf infoOf lowestFirst describedOf inventoryOf arrivalOf mayPrime tryPrimeOf trySameOf skipRight fieldsRight entryRight joinOf tryActivateOf cancelOf offFree onOf answerOf callOf primeAllows activateAllows primeReportOf activateReportOf imageOf decideOf refusedOf acceptedOf informedOf joinedOf settledOf poweredOf reportedOf afterPrime afterActivate isDone forgottenOf endedOf releasedOf withImageOf stepOf
 examples =
     -- P unknown number 0xC40002E7: -1. P FEATURES of 0x84000002: -1
     says [] (call 0 0xC40002E7 0 0 0 0) (2 ^ 64 - 1)
     ∷ says [] (call 0 featuresNumber offNumber 0 0 0) (2 ^ 64 - 1)
     ∷ says [] (call 0 versionNumber 0 0 0 0) 65536
     -- P UUID bytes 00..0f: X1 = 0x0706050403020100
-    ∷ eqb (x1Of (stepOf (after (freshOf board) (info ∷ [])) (call 0 inventoryNumber 0 0 0 0) 4 4 .outcome)) 0x0706050403020100
+    ∷ eqb (x1Of (stepOf (after (freshOf board) (info ∷ [])) (call 0 inventoryNumber 0 0 0 0) mostCpus mostCpus .outcome)) 0x0706050403020100
     -- P inventory before GET_INFO, id too large: -7; after it: -8
     ∷ says [] (call 0 inventoryNumber 99 0 0 0) (2 ^ 64 - 7)
     ∷ says (info ∷ []) (call 0 inventoryNumber 99 0 0 0) (2 ^ 64 - 8)
@@ -150,9 +144,9 @@ examples =
     ∷ refuses (ready 0 ++ activate 0 0 ∷ []) (activated 0 1) 6
     -- postponed (code 2), then one of two CPUs calls: held
     ∷ same (answer (switchOn 0 2 ∷ ready 0 ++ activate 0 0 ∷ activate 2 0 ∷ activated 0 2 ∷ []) (activate 0 0)) (2 ∷ [])
-    -- each refusal of an event once
-    ∷ same (answered (stepOf (after (freshOf board) []) info 3 4 .outcome)) (0 ∷ 1 ∷ [])
-    ∷ same (answered (stepOf (after (freshOf board) []) info 4 3 .outcome)) (0 ∷ 1 ∷ [])
+    -- every refusal of an event
+    ∷ same (answered (stepOf (freshOf board) info 3 4 .outcome)) (0 ∷ 1 ∷ [])
+    ∷ same (answered (stepOf (freshOf board) info 4 3 .outcome)) (0 ∷ 1 ∷ [])
     ∷ same (answered (stepOf (freshOf (record { components = 3; cpus = 65; first = 0; last = 0; component = board .component })) info 99 99 .outcome)) (0 ∷ 9 ∷ [])
     ∷ refuses [] (call 4 versionNumber 0 0 0 0) 2
     ∷ refuses [] (call 3 versionNumber 0 0 0 0) 3

@@ -11,7 +11,8 @@ use Rattle.board_record.specs.Record.{isGathering}
 use Rattle.board_record.specs.declared.Record.{Record}
 use Rattle.board_record.specs.declared.State.{State}
 use Rattle.board_record.specs.declared.State.the-variants.{Idle, Preparing, HalfPrepared, Ready, Gathering, Together, Alone, HalfActivated, Dead}
-use Rattle.rules.specs.Moves.{minusOf}
+use Rattle.rules.specs.Statuses.{minusOf}
+use Rattle.rules.specs.Reports.{byReset}
 use Rattle.rules.specs.declared.Arrival.{Arrival}
 use Rattle.rules.specs.declared.Image.{Image}
 use Rattle.rules.specs.declared.Refusal.{Refusal}
@@ -38,8 +39,8 @@ abbrev pub successOf : ℕ → Caller
 successOf x1 = caller.Returned (record { x0 = 0; x1 = x1; x2 = 0; x3 = 0 })
 
 -- ---- GET_INFO "gives 0 and the component count and notes the call"
-unfoldable pub informedOf : Record → Bool → Record
-informedOf r noted = record {
+unfoldable pub informedOf : Record → Record
+informedOf r = record {
   board = r .board;
   pending = r .pending;
   version = r .version;
@@ -48,11 +49,11 @@ informedOf r noted = record {
   held = r .held;
   entry = r .entry;
   context = r .context;
-  informed = noted;
+  informed = true;
 }
 
 abbrev pub noteInfoOf : Record → Stepped
-noteInfoOf r = acceptedOf (informedOf r true) (successOf (r .board .components)) release.Nobody
+noteInfoOf r = acceptedOf (informedOf r) (successOf (r .board .components)) release.Nobody
 
 -- ---- "the caller is held"
 unfoldable pub joinedOf : Record → State → Arrival → Record
@@ -68,8 +69,8 @@ joinedOf r s a = record {
   informed = r .informed;
 }
 
-abbrev pub joinOf : Record → State → Arrival → Caller → Stepped
-joinOf r s a who = acceptedOf (joinedOf r s a) who release.Nobody
+abbrev pub heldOf : Record → State → Arrival → Caller → Stepped
+heldOf r s a who = acceptedOf (joinedOf r s a) who release.Nobody
 
 -- ---- the held CPUs are released; entries and context ids are "0 elsewhere"
 unfoldable pub settledOf : Record → State → Record
@@ -90,11 +91,11 @@ abbrev pub freedOf : CpuSet → ℕ → ℕ → Release
 freedOf cpus x0 x1 = release.Returned (record { cpus = cpus; x0 = x0; x1 = x1 })
 
 -- ---- CANCEL: "From gathering, the held CPUs are released with X0 = -11, X1 = 0"
-abbrev pub withdrawnOf : Record → Release
-withdrawnOf r = pick (isGathering (r .state)) (freedOf (r .held) (minusOf 11) 0) release.Nobody
+abbrev pub cancelledOf : Record → Release
+cancelledOf r = pick (isGathering (r .state)) (freedOf (r .held) (minusOf 11) 0) release.Nobody
 
-abbrev pub withdrawOf : Record → Stepped
-withdrawOf r = acceptedOf (settledOf r Idle) (successOf 0) (withdrawnOf r)
+abbrev pub toIdleOf : Record → Stepped
+toIdleOf r = acceptedOf (settledOf r Idle) (successOf 0) (cancelledOf r)
 
 -- ---- CPU_OFF, CPU_ON
 unfoldable pub poweredOf : Record → CpuSet → Record
@@ -137,10 +138,6 @@ afterActivate p =
     (pick (eqb (p .code) 5) Dead
     Idle))
 
--- the code "12 done by reset"
-abbrev byReset : ℕ
-byReset = 12
-
 -- "Code 0 or 12: .. pending cleared, GET_INFO forgotten"
 unfoldable pub isDone : ℕ → Bool
 isDone code = eqb code 0 || eqb code byReset
@@ -170,8 +167,8 @@ abbrev pub endActivateOf : Record → Report → Stepped
 endActivateOf r p = acceptedOf (endedOf r p) caller.Nothing (releasedOf (r .held) (p .code))
 
 -- ---- "An accepted image makes its component pending with that version, in place of an older one"
-unfoldable pub arrivedOf : Record → Image → Record
-arrivedOf r i = record {
+unfoldable pub withImageOf : Record → Image → Record
+withImageOf r i = record {
   board = r .board;
   pending = set (r .pending) (i .component) true;
   version = set (r .version) (i .component) (i .version);
@@ -187,13 +184,13 @@ abbrev pub performOf : Record → Move → Stepped
 performOf r (move.Refuse x) = refusedOf r x
 performOf r (move.Return x) = acceptedOf r (caller.Returned x) release.Nobody
 performOf r move.NoteInfo = noteInfoOf r
-performOf r (move.StartPrime a) = joinOf r (Preparing (a .component)) a caller.PrimeStarted
-performOf r (move.Gather a) = joinOf r (Gathering (a .component)) a caller.Held
-performOf r (move.StartTogether a) = joinOf r (Together (a .component)) a caller.ActivationStarted
-performOf r (move.StartAlone a) = joinOf r (Alone (a .component)) a caller.ActivationStarted
-performOf r move.Withdraw = withdrawOf r
+performOf r (move.StartPrime a) = heldOf r (Preparing (a .component)) a caller.PrimeStarted
+performOf r (move.Gather a) = heldOf r (Gathering (a .component)) a caller.Held
+performOf r (move.StartTogether a) = heldOf r (Together (a .component)) a caller.ActivationStarted
+performOf r (move.StartAlone a) = heldOf r (Alone (a .component)) a caller.ActivationStarted
+performOf r move.ToIdle = toIdleOf r
 performOf r (move.PowerOff cpu) = powerOffOf r cpu
 performOf r (move.PowerOn w) = powerOnOf r w
 performOf r (move.EndPrime p) = endPrimeOf r p
 performOf r (move.EndActivate p) = endActivateOf r p
-performOf r (move.Arrive i) = acceptedOf (arrivedOf r i) caller.Nothing release.Nobody
+performOf r (move.NoteImage i) = acceptedOf (withImageOf r i) caller.Nothing release.Nobody

@@ -1,7 +1,7 @@
 -- One event: the answer, the next record, and the two resume tables. Assumes nothing.
 use Prim.Native.Nat.{ℕ, zero, suc}
 use mathlib.Core.Bool.{Bool}
-use mathlib.Core.List.{List}
+use mathlib.Core.List.{List, [], _∷_}
 use lib.ListN.{length, getD, set, replicate}
 use Rattle.basics.specs.Choice.{pick}
 use Rattle.cpuset.specs.Set.{hasOf, noneOf}
@@ -21,9 +21,9 @@ use Rattle.agent.specs.declared.Stepped.{Stepped}
 use Rattle.agent.specs.declared.tables.Source.{Source}
 use Rattle.agent.specs.declared.tables.Source.the-variants.{Own, Given}
 
--- the rules decide, then their effects happen; the two numbers are the lengths of the resume tables
+-- the rules decide, then their effects happen; the two numbers are how many places the resume tables have
 unfoldable pub stepOf : Record → Event → ℕ → ℕ → Stepped
-stepOf r e entries contexts = performOf r (decideOf r e entries contexts)
+stepOf r e entryPlaces contextPlaces = performOf r (decideOf r e entryPlaces contextPlaces)
 
 -- ---- "Resume addresses and context ids are written into two lent tables of 64-bit numbers at each resuming CPU's place"
 
@@ -46,12 +46,12 @@ sourceOf (move.StartPrime a) = Own
 sourceOf (move.Gather a) = Own
 sourceOf (move.StartTogether a) = Own
 sourceOf (move.StartAlone a) = Own
-sourceOf move.Withdraw = Own
+sourceOf move.ToIdle = Own
 sourceOf (move.PowerOff cpu) = Own
 sourceOf (move.PowerOn w) = Given w
 sourceOf (move.EndPrime p) = Own
 sourceOf (move.EndActivate p) = Own
-sourceOf (move.Arrive i) = Own
+sourceOf (move.NoteImage i) = Own
 
 abbrev pub entriesFrom : Record → Source → List ℕ
 entriesFrom r Own = r .entry
@@ -80,3 +80,8 @@ unfoldable pub contextsOf : Record → Event → List ℕ → List ℕ → List 
 contextsOf r e entries contexts =
     let m = decideOf r e (length entries) (length contexts) in
     filled (resumingOf (performOf r m .outcome)) (contextsFrom r (sourceOf m)) contexts
+
+-- the record after some events, each accepted or not, with tables that are long enough
+abbrev pub after : Record → List Event → Record
+after r [] = r
+after r (e ∷ es) = after (stepOf r e mostCpus mostCpus .rec) es

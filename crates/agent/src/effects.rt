@@ -17,10 +17,7 @@ use rules::Report;
 use rules::Waking;
 ghost use mathlib.Core.Path.{_≡_};
 ghost use lib.ListN.{set};
-ghost use Rattle.agent.specs.Perform.{refusedOf, acceptedOf, successOf, noteInfoOf, joinedOf, joinOf, settledOf, freedOf, withdrawnOf, withdrawOf, poweredOf, powerOffOf, powerOnOf, reportedOf, afterPrime, endPrimeOf, afterActivate, forgottenOf, isDone, endedOf, releasedOf, endActivateOf, arrivedOf, performOf};
-
-// The code of an activation that is done by reset.
-const BY_RESET: u64 = 12;
+ghost use Rattle.agent.specs.Perform.{refusedOf, acceptedOf, successOf, informedOf, noteInfoOf, joinedOf, heldOf, settledOf, freedOf, cancelledOf, toIdleOf, poweredOf, powerOffOf, powerOnOf, reportedOf, afterPrime, endPrimeOf, afterActivate, forgottenOf, isDone, endedOf, releasedOf, endActivateOf, withImageOf, performOf};
 
 fn refused(rec: Record, x: Refusal) -> Stepped
     ensures { λ r. ⌜ r ≡ refusedOf rec x ⌝ }
@@ -55,18 +52,20 @@ fn success(x1: u64) -> Caller
     })
 }
 
+fn informed(rec: Record) -> Record
+    ensures { λ r. ⌜ r ≡ informedOf rec ⌝ }
+{
+    Record {
+        informed: true,
+        ..rec
+    }
+}
+
 fn note_info(rec: Record) -> Stepped
     ensures { λ r. ⌜ r ≡ noteInfoOf rec ⌝ }
 {
     let count = rec.board.components;
-    accepted(
-        Record {
-            informed: true,
-            ..rec
-        },
-        success(count),
-        Release::Nobody,
-    )
+    accepted(informed(rec), success(count), Release::Nobody)
 }
 
 // A table of CPUs with one place written.
@@ -96,9 +95,9 @@ fn joined(rec: Record, s: State, a: Arrival) -> Record
     }
 }
 
-// The caller is held in this state, and is told so.
-fn join(rec: Record, s: State, a: Arrival, caller: Caller) -> Stepped
-    ensures { λ r. ⌜ r ≡ joinOf rec s a caller ⌝ }
+// The caller is held in this state.
+fn hold(rec: Record, s: State, a: Arrival, caller: Caller) -> Stepped
+    ensures { λ r. ⌜ r ≡ heldOf rec s a caller ⌝ }
 {
     accepted(joined(rec, s, a), caller, Release::Nobody)
 }
@@ -128,8 +127,8 @@ fn freed(cpus: CpuSet, x0: u64, x1: u64) -> Release
 }
 
 // Those that a CANCEL releases: the CPUs held for ACTIVATE, and no others.
-fn withdrawn(rec: Record) -> Release
-    ensures { λ r. ⌜ r ≡ withdrawnOf rec ⌝ }
+fn cancelled(rec: Record) -> Release
+    ensures { λ r. ⌜ r ≡ cancelledOf rec ⌝ }
 {
     let s = rec.state;
     let held = rec.held;
@@ -140,10 +139,10 @@ fn withdrawn(rec: Record) -> Release
     }
 }
 
-fn withdraw(rec: Record) -> Stepped
-    ensures { λ r. ⌜ r ≡ withdrawOf rec ⌝ }
+fn to_idle(rec: Record) -> Stepped
+    ensures { λ r. ⌜ r ≡ toIdleOf rec ⌝ }
 {
-    accepted(settled(rec, State::Idle), success(0), withdrawn(rec))
+    accepted(settled(rec, State::Idle), success(0), cancelled(rec))
 }
 
 fn powered(rec: Record, cpus: CpuSet) -> Record
@@ -239,7 +238,11 @@ fn forgotten(rec: Record, id: u64) -> Record
 fn is_done(code: u64) -> bool
     ensures { λ r. ⌜ r ≡ isDone code ⌝ }
 {
-    if code == 0 { true } else { code == BY_RESET }
+    if code == 0 {
+        true
+    } else {
+        code == rules::BY_RESET
+    }
 }
 
 fn ended(rec: Record, p: Report) -> Record
@@ -256,7 +259,7 @@ fn ended(rec: Record, p: Report) -> Record
 fn released(held: CpuSet, code: u64) -> Release
     ensures { λ r. ⌜ r ≡ releasedOf held code ⌝ }
 {
-    if code == BY_RESET {
+    if code == rules::BY_RESET {
         Release::Resumed(held)
     } else {
         reported(held, code)
@@ -271,8 +274,8 @@ fn end_activate(rec: Record, p: Report) -> Stepped
 }
 
 // The image is pending with its version, in place of an older one.
-fn arrived(rec: Record, i: Image) -> Record
-    ensures { λ r. ⌜ r ≡ arrivedOf rec i ⌝ }
+fn with_image(rec: Record, i: Image) -> Record
+    ensures { λ r. ⌜ r ≡ withImageOf rec i ⌝ }
 {
     let mut next = rec;
     let id = i.component;
@@ -291,20 +294,20 @@ pub(crate) fn perform(rec: Record, m: Move) -> Stepped
         Move::Refuse(x) => refused(rec, x),
         Move::Return(x) => accepted(rec, Caller::Returned(x), Release::Nobody),
         Move::NoteInfo => note_info(rec),
-        Move::StartPrime(a) => join(rec, State::Preparing(a.component), a, Caller::PrimeStarted),
-        Move::Gather(a) => join(rec, State::Gathering(a.component), a, Caller::Held),
-        Move::StartTogether(a) => join(
+        Move::StartPrime(a) => hold(rec, State::Preparing(a.component), a, Caller::PrimeStarted),
+        Move::Gather(a) => hold(rec, State::Gathering(a.component), a, Caller::Held),
+        Move::StartTogether(a) => hold(
             rec,
             State::Together(a.component),
             a,
             Caller::ActivationStarted,
         ),
-        Move::StartAlone(a) => join(rec, State::Alone(a.component), a, Caller::ActivationStarted),
-        Move::Withdraw => withdraw(rec),
+        Move::StartAlone(a) => hold(rec, State::Alone(a.component), a, Caller::ActivationStarted),
+        Move::ToIdle => to_idle(rec),
         Move::PowerOff(cpu) => power_off(rec, cpu),
         Move::PowerOn(w) => power_on(rec, w),
         Move::EndPrime(p) => end_prime(rec, p),
         Move::EndActivate(p) => end_activate(rec, p),
-        Move::Arrive(i) => accepted(arrived(rec, i), Caller::Nothing, Release::Nobody),
+        Move::NoteImage(i) => accepted(with_image(rec, i), Caller::Nothing, Release::Nobody),
     }
 }

@@ -50,12 +50,12 @@ pub(crate) fn source_of(m: Move) -> Source
         Move::Gather(_) => Source::Own,
         Move::StartTogether(_) => Source::Own,
         Move::StartAlone(_) => Source::Own,
-        Move::Withdraw => Source::Own,
+        Move::ToIdle => Source::Own,
         Move::PowerOff(_) => Source::Own,
         Move::PowerOn(w) => Source::Given(w),
         Move::EndPrime(_) => Source::Own,
         Move::EndActivate(_) => Source::Own,
-        Move::Arrive(_) => Source::Own,
+        Move::NoteImage(_) => Source::Own,
     }
 }
 
@@ -77,7 +77,7 @@ pub(crate) fn contexts(rec: Record, from: Source) -> [u64; board::MOST_CPUS]
     }
 }
 
-// How many places of a table a CPU has.
+// How many places of a table belong to CPUs.
 fn places(length: usize) -> usize
     ensures { λ r. ⌜ r ≡ min length mostCpus ⌝ }
 {
@@ -92,6 +92,7 @@ fn places(length: usize) -> usize
 pub(crate) fn fill(cpus: CpuSet, from: [u64; board::MOST_CPUS], table: &mut [u64])
     ensures { λ _. ⌜ now (table .exit) ≡ filled cpus from (now (table .entry)) ⌝ }
 {
+    // most events resume nobody
     if cpuset::is_none(cpus) {
         return;
     }

@@ -7,6 +7,10 @@ use Rattle.board.proofs.good_entry.Kinds as good-entry-kinds
 use Rattle.board.proofs.good_entry.Reads as good-entry-reads
 use Rattle.board.proofs.numbered.Kinds as numbered-kinds
 use Rattle.board.proofs.numbered.Reads as numbered-reads
+use Rattle.board.proofs.is_capable.Kinds as is-capable-kinds
+use Rattle.board.proofs.is_capable.Reads as is-capable-reads
+use Rattle.board.proofs.may_reset.Kinds as may-reset-kinds
+use Rattle.board.proofs.may_reset.Reads as may-reset-reads
 use Rattle.board.proofs.is_well_formed.Kinds as is-well-formed-kinds
 use Rattle.board.proofs.is_well_formed.Reads as is-well-formed-reads
 use Rattle.board.proofs.read_board.Kinds as read-board-kinds
@@ -24,6 +28,12 @@ good-entry-pinned κs a z z′ ws ws′ p q = just p q
 
 pub numbered-pinned : OneOutcome 0 numbered-kinds.ps numbered-kinds.r numbered-reads.Post
 numbered-pinned κs a z z′ ws ws′ p q = just p q
+
+pub is-capable-pinned : OneOutcome 0 is-capable-kinds.ps is-capable-kinds.r is-capable-reads.Post
+is-capable-pinned κs a z z′ ws ws′ p q = just p q
+
+pub may-reset-pinned : OneOutcome 0 may-reset-kinds.ps may-reset-kinds.r may-reset-reads.Post
+may-reset-pinned κs a z z′ ws ws′ p q = just p q
 
 pub is-well-formed-pinned : OneOutcome 0 is-well-formed-kinds.ps is-well-formed-kinds.r is-well-formed-reads.Post
 is-well-formed-pinned κs a z z′ ws ws′ p q = just p q

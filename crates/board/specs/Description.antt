@@ -42,6 +42,13 @@ componentOf b i = getD (b .component) i absent
 unfoldable pub numberedOf : Board → ℕ → Component
 numberedOf b i = pick (ltb i mostComponents) (componentOf b i) blank
 
+-- the board has component id, and it is capable
+unfoldable pub isCapable : Board → ℕ → Bool
+isCapable b id = ltb id (b .components) && numberedOf b id .capable
+
+abbrev pub mayReset : Board → ℕ → Bool
+mayReset b id = numberedOf b id .«may_reset»
+
 -- two UUIDs are the same, byte for byte
 abbrev pub sameAt : List ℕ → List ℕ → ℕ → Bool
 sameAt u v k = eqb (getD u k 0) (getD v k 0)
@@ -52,7 +59,7 @@ sameUuid u v = allBelow uuidBytes (sameAt u v)
 -- "all places past a count are 0"
 abbrev pub isBlank : Component → Bool
 isBlank c =
-    sameUuid (c .uuid) (replicate uuidBytes 0) && (not (c .capable) && (not (c .«may_reset») && (not (c .optional) && eqb (c .svn) 0)))
+    sameUuid (c .uuid) (blank .uuid) && (not (c .capable) && (not (c .«may_reset») && (not (c .optional) && eqb (c .svn) 0)))
 
 abbrev pub blankPast : Board → Bool
 blankPast b = allBelow (mostComponents - b .components) (λ j. isBlank (componentOf b (b .components + j)))

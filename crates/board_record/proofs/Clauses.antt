@@ -1,19 +1,18 @@
 -- What a well-formed record tells, fact by fact, and how it is shown. Assumes nothing.
-use Prim.Native.Nat.{ℕ, _<_}
-use mathlib.Core.Path.{_≡_, sym, _∙_}
+use Prim.Native.Nat.{ℕ}
+use mathlib.Core.Path.{_≡_}
 use mathlib.Core.Bool.{Bool, true, not, _&&_}
-use lib.Dec.{eqb, ltb}
+use lib.Dec.{eqb}
 use lib.ListN.{length, replicate, getD-replicate}
-use borrow.Author.Tests.{ltb-true}
 use Rattle.basics.specs.Choice.{not-both, and-left, and-right}
 use Rattle.basics.specs.Every.{all-of}
-use Rattle.cpuset.specs.Set.{Set, room, hasOf, noneOf, belowOf, sameOf, withinOf, countOf}
-use Rattle.cpuset.specs.Laws.{has-none, has-below, set-none, set-below, set-within, same-is, within-has, within-of}
+use Rattle.cpuset.specs.Set.{Set, hasOf, noneOf, belowOf, sameOf, withinOf, countOf}
+use Rattle.cpuset.specs.Laws.{has-none, set-none, set-below, set-within, same-is, within-of}
 use Rattle.cpuset.specs.declared.CpuSet.{CpuSet}
 use Rattle.board.specs.Description.{mostComponents, mostCpus}
 use Rattle.board.specs.Packed.{boardStands}
 use Rattle.board_record.specs.Record.{holdingOf}
-use Rattle.board_record.specs.WellFormed.{poweredStand, imagesStand, stateStands, heldBy, heldStand, keptOf, entryStands, entriesStand, restStands, wellFormed}
+use Rattle.board_record.specs.WellFormed.{poweredStand, imagesStand, stateStands, heldBy, heldStand, keepersOf, entryStands, entriesStand, workStands, restStands, wellFormed}
 use Rattle.board_record.specs.declared.Record.{Record}
 use Rattle.board_record.specs.declared.State.{State}
 use Rattle.board_record.specs.declared.Holding.{Holding}
@@ -26,13 +25,13 @@ pub record WellFormed (r : Record) : Type 0 where
   pub images : imagesStand (r .board) (r .pending) (r .version) ≡ true
   pub state : stateStands (r .board) (r .pending) (r .version) (r .state) ≡ true
   pub held : heldStand (r .state) (r .on) (r .held) ≡ true
-  pub entries : entriesStand (r .board .first) (r .board .last) (keptOf (r .board) (r .state) (r .held)) (r .entry) (r .context) ≡ true
+  pub entries : entriesStand (r .board .first) (r .board .last) (keepersOf (r .board) (r .state) (r .held)) (r .entry) (r .context) ≡ true
 
 both : (a b : Bool) → (a && b) ≡ true → (a ≡ true) × (b ≡ true)
 both a b e = (and-left a b e, and-right a b e)
 
 pub told : (r : Record) → wellFormed r ≡ true → WellFormed r
-unfolding wellFormed restStands
+unfolding wellFormed restStands workStands
 told r e =
     let a = both (boardStands (r .board)) _ e in
     let b = both (poweredStand (r .board .cpus) (r .on)) _ (a .1) in
@@ -42,7 +41,7 @@ told r e =
     record { board = a .0; powered = b .0; images = c .0; state = d .0; held = f .0; entries = f .1 }
 
 pub shown : (r : Record) → WellFormed r → wellFormed r ≡ true
-unfolding wellFormed restStands
+unfolding wellFormed restStands workStands
 shown r w = rw (w .board, w .powered, w .images, w .state, w .held, w .entries)
 
 -- what the types of a record's tables say of their lengths
@@ -59,10 +58,6 @@ powered-within cpus on e = and-right (not (sameOf on noneOf)) (withinOf on (belo
 
 pub powered-set : (cpus : ℕ) (on : CpuSet) → poweredStand cpus on ≡ true → Set on
 powered-set cpus on e = set-within on (belowOf cpus) (set-below cpus) (powered-within cpus on e)
-
-pub powered-below : (cpus : ℕ) (on : CpuSet) → poweredStand cpus on ≡ true → (j : ℕ) → hasOf on j ≡ true → j < cpus
-powered-below cpus on e j h =
-    ltb-true j cpus (and-right (ltb j room) (ltb j cpus) (sym (has-below cpus j) ∙ within-has on (belowOf cpus) (powered-within cpus on e) j h))
 
 -- whoever is held is powered
 held-by : (h : Holding) (on held : CpuSet) → Set on → heldBy h on held ≡ true → withinOf held on ≡ true

@@ -14,9 +14,9 @@ use Rattle.board.specs.Description.{mostComponents, mostCpus}
 use Rattle.board.specs.Packed.{boardStands}
 use Rattle.board.specs.declared.Board.{Board}
 use Rattle.board.proofs.Laws.{stands-counted}
-use Rattle.board_record.proofs.Clauses.{entries-zero}
+use Rattle.board_record.proofs.Clauses.{Sized, entries-zero}
 use Rattle.board_record.specs.Record.{freshOf}
-use Rattle.board_record.specs.WellFormed.{poweredStand, imageStands, imagesStand, stateStands, heldStand, restStands, wellFormed}
+use Rattle.board_record.specs.WellFormed.{poweredStand, imageStands, imagesStand, stateStands, heldStand, workStands, restStands, wellFormed}
 
 pub room-most : room ≡ mostCpus
 unfolding room
@@ -38,6 +38,10 @@ unfolding imagesStand imageStands allBelow
 images b = refl
 
 pub fresh-stands : (b : Board) → boardStands b ≡ true → wellFormed (freshOf b) ≡ true
-unfolding wellFormed restStands freshOf stateStands heldStand
+unfolding wellFormed restStands workStands freshOf stateStands heldStand
 fresh-stands b e =
     rw (e, powered (b .cpus) (stands-counted b e .someCpus), images b, same-eq noneOf noneOf refl, entries-zero (b .first) (b .last))
+
+pub fresh-sized : (b : Board) → Sized (freshOf b)
+unfolding freshOf
+fresh-sized b = record { pending = refl; version = refl; entry = refl; context = refl }

@@ -6,8 +6,10 @@ use Rattle.board_record.proofs.subject_of.Kinds as subject-of-kinds
 use Rattle.board_record.proofs.subject_of.Reads as subject-of-reads
 use Rattle.board_record.proofs.is_gathering.Kinds as is-gathering-kinds
 use Rattle.board_record.proofs.is_gathering.Reads as is-gathering-reads
-use Rattle.board_record.proofs.goes_alone.Kinds as goes-alone-kinds
-use Rattle.board_record.proofs.goes_alone.Reads as goes-alone-reads
+use Rattle.board_record.proofs.skips_rendezvous.Kinds as skips-rendezvous-kinds
+use Rattle.board_record.proofs.skips_rendezvous.Reads as skips-rendezvous-reads
+use Rattle.board_record.proofs.is_alone.Kinds as is-alone-kinds
+use Rattle.board_record.proofs.is_alone.Reads as is-alone-reads
 use Rattle.board_record.proofs.is_for.Kinds as is-for-kinds
 use Rattle.board_record.proofs.is_for.Reads as is-for-reads
 use Rattle.board_record.proofs.is_pending.Kinds as is-pending-kinds
@@ -26,8 +28,11 @@ subject-of-pinned κs a z z′ ws ws′ p q = just p q
 pub is-gathering-pinned : OneOutcome 0 is-gathering-kinds.ps is-gathering-kinds.r is-gathering-reads.Post
 is-gathering-pinned κs a z z′ ws ws′ p q = just p q
 
-pub goes-alone-pinned : OneOutcome 0 goes-alone-kinds.ps goes-alone-kinds.r goes-alone-reads.Post
-goes-alone-pinned κs a z z′ ws ws′ p q = just p q
+pub skips-rendezvous-pinned : OneOutcome 0 skips-rendezvous-kinds.ps skips-rendezvous-kinds.r skips-rendezvous-reads.Post
+skips-rendezvous-pinned κs a z z′ ws ws′ p q = just p q
+
+pub is-alone-pinned : OneOutcome 0 is-alone-kinds.ps is-alone-kinds.r is-alone-reads.Post
+is-alone-pinned κs a z z′ ws ws′ p q = just p q
 
 pub is-for-pinned : OneOutcome 0 is-for-kinds.ps is-for-kinds.r is-for-reads.Post
 is-for-pinned κs a z z′ ws ws′ p q = just p q

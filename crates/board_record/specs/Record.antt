@@ -10,7 +10,7 @@ use Rattle.board.specs.declared.Board.{Board}
 use Rattle.board_record.specs.declared.State.{State}
 use Rattle.board_record.specs.declared.State.the-variants.{Idle, Preparing, HalfPrepared, Ready, Gathering, Together, Alone, HalfActivated, Dead}
 use Rattle.board_record.specs.declared.Subject.{Subject}
-use Rattle.board_record.specs.declared.Subject.the-variants.{Nothing, Component}
+use Rattle.board_record.specs.declared.Subject.the-variants.{Nothing, Of}
 use Rattle.board_record.specs.declared.Holding.{Holding}
 use Rattle.board_record.specs.declared.Holding.the-variants.{Nobody, One, Part, All}
 use Rattle.board_record.specs.declared.Record.{Record}
@@ -18,18 +18,18 @@ use Rattle.board_record.specs.declared.Record.{Record}
 -- "the state with its component (idle and dead have none)"
 abbrev pub subjectOf : State → Subject
 subjectOf Idle = Nothing
-subjectOf (Preparing c) = Component c
-subjectOf (HalfPrepared c) = Component c
-subjectOf (Ready c) = Component c
-subjectOf (Gathering c) = Component c
-subjectOf (Together c) = Component c
-subjectOf (Alone c) = Component c
-subjectOf (HalfActivated c) = Component c
+subjectOf (Preparing c) = Of c
+subjectOf (HalfPrepared c) = Of c
+subjectOf (Ready c) = Of c
+subjectOf (Gathering c) = Of c
+subjectOf (Together c) = Of c
+subjectOf (Alone c) = Of c
+subjectOf (HalfActivated c) = Of c
 subjectOf Dead = Nothing
 
 abbrev pub isAbout : Subject → ℕ → Bool
 isAbout Nothing id = false
-isAbout (Component c) id = eqb c id
+isAbout (Of c) id = eqb c id
 
 -- the state's component is number id
 abbrev pub isFor : State → ℕ → Bool
@@ -48,17 +48,17 @@ holdingOf (Alone c) = One
 holdingOf (HalfActivated c) = Nobody
 holdingOf Dead = Nobody
 
--- an activation without rendezvous
-abbrev pub goesAlone : State → Bool
-goesAlone Idle = false
-goesAlone (Preparing c) = false
-goesAlone (HalfPrepared c) = false
-goesAlone (Ready c) = false
-goesAlone (Gathering c) = false
-goesAlone (Together c) = false
-goesAlone (Alone c) = true
-goesAlone (HalfActivated c) = true
-goesAlone Dead = false
+-- an activation without rendezvous began: it is running, or half done
+abbrev pub skipsRendezvous : State → Bool
+skipsRendezvous Idle = false
+skipsRendezvous (Preparing c) = false
+skipsRendezvous (HalfPrepared c) = false
+skipsRendezvous (Ready c) = false
+skipsRendezvous (Gathering c) = false
+skipsRendezvous (Together c) = false
+skipsRendezvous (Alone c) = true
+skipsRendezvous (HalfActivated c) = true
+skipsRendezvous Dead = false
 
 -- some of the powered CPUs are held for ACTIVATE, and not all
 abbrev pub isGathering : State → Bool
@@ -71,6 +71,18 @@ isGathering (Together c) = false
 isGathering (Alone c) = false
 isGathering (HalfActivated c) = false
 isGathering Dead = false
+
+-- an activation without rendezvous is running
+abbrev pub isAlone : State → Bool
+isAlone Idle = false
+isAlone (Preparing c) = false
+isAlone (HalfPrepared c) = false
+isAlone (Ready c) = false
+isAlone (Gathering c) = false
+isAlone (Together c) = false
+isAlone (Alone c) = true
+isAlone (HalfActivated c) = false
+isAlone Dead = false
 
 -- whether component id has a pending image, and "each pending image's version (0 where none is pending)"
 abbrev pub isPending : List Bool → ℕ → Bool

@@ -2,17 +2,17 @@
 use Prim.Native.Nat.{ℕ}
 use mathlib.Core.Bool.{Bool, true, false, not, _&&_}
 use mathlib.Core.List.{List}
-use lib.Dec.{eqb, leb, ltb}
+use lib.Dec.{eqb, leb}
 use lib.ListN.{getD}
 use Rattle.basics.specs.Choice.{pick}
 use Rattle.basics.specs.Every.{allBelow}
 use Rattle.cpuset.specs.Set.{hasOf, noneOf, belowOf, sameOf, withinOf, countOf}
 use Rattle.cpuset.specs.declared.CpuSet.{CpuSet}
-use Rattle.board.specs.Description.{mostComponents, mostCpus, componentOf, numberedOf, goodEntry}
+use Rattle.board.specs.Description.{mostComponents, mostCpus, numberedOf, isCapable, mayReset, goodEntry}
 use Rattle.board.specs.Packed.{boardStands}
 use Rattle.board.specs.declared.Board.{Board}
 use Rattle.board.specs.declared.Component.{Component}
-use Rattle.board_record.specs.Record.{subjectOf, holdingOf, goesAlone, isPending, versionOf}
+use Rattle.board_record.specs.Record.{subjectOf, holdingOf, skipsRendezvous, isPending, versionOf}
 use Rattle.board_record.specs.declared.State.{State}
 use Rattle.board_record.specs.declared.State.the-variants.{Idle, Preparing, HalfPrepared, Ready, Gathering, Together, Alone, HalfActivated, Dead}
 use Rattle.board_record.specs.declared.Subject.{Subject}
@@ -21,20 +21,19 @@ use Rattle.board_record.specs.declared.Holding.{Holding}
 use Rattle.board_record.specs.declared.Holding.the-variants.{Nobody, One, Part, All}
 use Rattle.board_record.specs.declared.Record.{Record}
 
--- "counts are in limits, all places past a count are 0, optional and may_reset are never both set, UUIDs differ,
--- first ≤ last": `boardStands`
+-- "counts are in limits, .. optional and may_reset are never both set, UUIDs differ, first ≤ last": `boardStands`. "values
+-- kept at 0 and all places past a count are 0": components there, images in `imagesStand`, CPUs in the sets and `entriesStand`
 
 -- "only existing CPUs are on and at least one is"
 unfoldable pub poweredStand : ℕ → CpuSet → Bool
 poweredStand cpus on = not (sameOf on noneOf) && withinOf on (belowOf cpus)
 
 -- "only existing capable components are pending"; where none is pending the version is 0
-unfoldable pub imageStands : Bool → Bool → Bool → ℕ → Bool
-imageStands exists capable pending version = pick pending (exists && capable) (eqb version 0)
+unfoldable pub imageStands : Bool → Bool → ℕ → Bool
+imageStands capable pending version = pick pending capable (eqb version 0)
 
 abbrev pub imageAt : Board → List Bool → List ℕ → ℕ → Bool
-imageAt b pending version i =
-    imageStands (ltb i (b .components)) (componentOf b i .capable) (isPending pending i) (versionOf version i)
+imageAt b pending version i = imageStands (isCapable b i) (isPending pending i) (versionOf version i)
 
 unfoldable pub imagesStand : Board → List Bool → List ℕ → Bool
 imagesStand b pending version = allBelow mostComponents (imageAt b pending version)
@@ -45,11 +44,11 @@ subjectStands c alone pending version = pending && (leb (c .svn) version && pick
 
 abbrev pub standsBy : Board → List Bool → List ℕ → Bool → Subject → Bool
 standsBy b pending version alone subject.Nothing = true
-standsBy b pending version alone (subject.Component c) =
+standsBy b pending version alone (subject.Of c) =
     subjectStands (numberedOf b c) alone (isPending pending c) (versionOf version c)
 
 unfoldable pub stateStands : Board → List Bool → List ℕ → State → Bool
-stateStands b pending version s = standsBy b pending version (goesAlone s) (subjectOf s)
+stateStands b pending version s = standsBy b pending version (skipsRendezvous s) (subjectOf s)
 
 -- "Held CPUs: one powered CPU ..; a non-empty proper part of the powered ones ..; all of them ..; none elsewhere"
 abbrev pub heldBy : Holding → CpuSet → CpuSet → Bool
@@ -61,10 +60,8 @@ heldBy All on held = sameOf held on
 unfoldable pub heldStand : State → CpuSet → CpuSet → Bool
 heldStand s on held = heldBy (holdingOf s) on held
 
--- "the entries and context ids of CPUs held for ACTIVATE with may_reset (0 elsewhere)": whose are kept
-abbrev pub mayReset : Board → ℕ → Bool
-mayReset b c = numberedOf b c .«may_reset»
-
+-- "the entries and context ids of CPUs held for ACTIVATE with may_reset (0 elsewhere)": whose are kept. In alone there are none, since
+-- optional and may_reset are never both set
 abbrev pub keepsEntries : Board → State → Bool
 keepsEntries b Idle = false
 keepsEntries b (Preparing c) = false
@@ -76,27 +73,30 @@ keepsEntries b (Alone c) = false
 keepsEntries b (HalfActivated c) = false
 keepsEntries b Dead = false
 
-abbrev pub keptOf : Board → State → CpuSet → CpuSet
-keptOf b s held = pick (keepsEntries b s) held noneOf
+abbrev pub keepersOf : Board → State → CpuSet → CpuSet
+keepersOf b s held = pick (keepsEntries b s) held noneOf
 
 -- "In gathering and together with may_reset, each held CPU's entry is valid"; 0 elsewhere
 unfoldable pub entryStands : ℕ → ℕ → Bool → ℕ → ℕ → Bool
-entryStands first last kept entry context = pick kept (goodEntry first last entry) (eqb entry 0 && eqb context 0)
+entryStands first last keeps entry context = pick keeps (goodEntry first last entry) (eqb entry 0 && eqb context 0)
 
 abbrev pub entryAt : ℕ → ℕ → CpuSet → List ℕ → List ℕ → ℕ → Bool
-entryAt first last kept entry context i = entryStands first last (hasOf kept i) (getD entry i 0) (getD context i 0)
+entryAt first last keepers entry context i = entryStands first last (hasOf keepers i) (getD entry i 0) (getD context i 0)
 
 unfoldable pub entriesStand : ℕ → ℕ → CpuSet → List ℕ → List ℕ → Bool
-entriesStand first last kept entry context = allBelow mostCpus (entryAt first last kept entry context)
+entriesStand first last keepers entry context = allBelow mostCpus (entryAt first last keepers entry context)
+
+-- what the board is at: the state, the held CPUs and their entries
+unfoldable pub workStands : Record → Bool
+workStands r =
+    stateStands (r .board) (r .pending) (r .version) (r .state)
+    && (heldStand (r .state) (r .on) (r .held)
+    && entriesStand (r .board .first) (r .board .last) (keepersOf (r .board) (r .state) (r .held)) (r .entry) (r .context))
 
 -- what stands past the board
 unfoldable pub restStands : Record → Bool
 restStands r =
-    poweredStand (r .board .cpus) (r .on)
-    && (imagesStand (r .board) (r .pending) (r .version)
-    && (stateStands (r .board) (r .pending) (r .version) (r .state)
-    && (heldStand (r .state) (r .on) (r .held)
-    && entriesStand (r .board .first) (r .board .last) (keptOf (r .board) (r .state) (r .held)) (r .entry) (r .context))))
+    poweredStand (r .board .cpus) (r .on) && (imagesStand (r .board) (r .pending) (r .version) && workStands r)
 
 unfoldable pub wellFormed : Record → Bool
 wellFormed r = boardStands (r .board) && restStands r

@@ -2,7 +2,7 @@
 mod standing;
 
 ghost use mathlib.Core.Path.{_≡_};
-ghost use Rattle.board_record.specs.Record.{subjectOf, holdingOf, isFor, goesAlone, isGathering, isPending, versionOf, freshOf};
+ghost use Rattle.board_record.specs.Record.{subjectOf, holdingOf, isFor, skipsRendezvous, isGathering, isAlone, isPending, versionOf, freshOf};
 ghost use Rattle.board_record.specs.WellFormed.{wellFormed};
 use board::Board;
 use cpuset::CpuSet;
@@ -20,10 +20,10 @@ pub enum State {
     Dead,
 }
 
-// The component that a state is about.
+// What a state is about: nothing, or a component.
 pub enum Subject {
     Nothing,
-    Component(u64),
+    Of(u64),
 }
 
 // How many of the powered CPUs are held.
@@ -71,13 +71,13 @@ pub fn subject_of(s: State) -> Subject
 {
     match s {
         State::Idle => Subject::Nothing,
-        State::Preparing(c) => Subject::Component(c),
-        State::HalfPrepared(c) => Subject::Component(c),
-        State::Ready(c) => Subject::Component(c),
-        State::Gathering(c) => Subject::Component(c),
-        State::Together(c) => Subject::Component(c),
-        State::Alone(c) => Subject::Component(c),
-        State::HalfActivated(c) => Subject::Component(c),
+        State::Preparing(c) => Subject::Of(c),
+        State::HalfPrepared(c) => Subject::Of(c),
+        State::Ready(c) => Subject::Of(c),
+        State::Gathering(c) => Subject::Of(c),
+        State::Together(c) => Subject::Of(c),
+        State::Alone(c) => Subject::Of(c),
+        State::HalfActivated(c) => Subject::Of(c),
         State::Dead => Subject::Nothing,
     }
 }
@@ -99,9 +99,9 @@ fn holding_of(s: State) -> Holding
     }
 }
 
-// Whether a state is of an activation without rendezvous.
-pub fn goes_alone(s: State) -> bool
-    ensures { λ r. ⌜ r ≡ goesAlone s ⌝ }
+// Whether an activation without rendezvous began: it is running, or half done.
+pub fn skips_rendezvous(s: State) -> bool
+    ensures { λ r. ⌜ r ≡ skipsRendezvous s ⌝ }
 {
     match s {
         State::Idle => false,
@@ -133,13 +133,30 @@ pub fn is_gathering(s: State) -> bool
     }
 }
 
+// Whether an activation without rendezvous is running.
+pub fn is_alone(s: State) -> bool
+    ensures { λ r. ⌜ r ≡ isAlone s ⌝ }
+{
+    match s {
+        State::Idle => false,
+        State::Preparing(_) => false,
+        State::HalfPrepared(_) => false,
+        State::Ready(_) => false,
+        State::Gathering(_) => false,
+        State::Together(_) => false,
+        State::Alone(_) => true,
+        State::HalfActivated(_) => false,
+        State::Dead => false,
+    }
+}
+
 // Whether a state is about component id.
 pub fn is_for(s: State, id: u64) -> bool
     ensures { λ r. ⌜ r ≡ isFor s id ⌝ }
 {
     match subject_of(s) {
         Subject::Nothing => false,
-        Subject::Component(c) => c == id,
+        Subject::Of(c) => c == id,
     }
 }
 

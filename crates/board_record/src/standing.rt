@@ -7,7 +7,7 @@ use board::Board;
 use board::Component;
 use cpuset::CpuSet;
 ghost use mathlib.Core.Path.{_≡_};
-ghost use Rattle.board_record.specs.WellFormed.{poweredStand, imageStands, imagesStand, subjectStands, stateStands, heldBy, heldStand, mayReset, keepsEntries, keptOf, entryStands, entriesStand, restStands};
+ghost use Rattle.board_record.specs.WellFormed.{poweredStand, imageStands, imagesStand, subjectStands, stateStands, heldBy, heldStand, keepsEntries, keepersOf, entryStands, entriesStand, workStands, restStands};
 
 fn is_powered_right(cpus: u64, on: CpuSet) -> bool
     ensures { λ r. ⌜ r ≡ poweredStand cpus on ⌝ }
@@ -18,14 +18,10 @@ fn is_powered_right(cpus: u64, on: CpuSet) -> bool
     cpuset::within(on, cpuset::below(cpus))
 }
 
-fn is_image_right(exists: bool, capable: bool, pending: bool, version: u32) -> bool
-    ensures { λ r. ⌜ r ≡ imageStands exists capable pending version ⌝ }
+fn is_image_right(capable: bool, pending: bool, version: u32) -> bool
+    ensures { λ r. ⌜ r ≡ imageStands capable pending version ⌝ }
 {
-    if pending {
-        if exists { capable } else { false }
-    } else {
-        version == 0
-    }
+    if pending { capable } else { version == 0 }
 }
 
 fn are_images_right(
@@ -37,8 +33,7 @@ fn are_images_right(
 {
     let mut i: usize = 0;
     while i < board::MOST_COMPONENTS {
-        let c = b.component[i];
-        if is_image_right((i as u64) < b.components, c.capable, pending[i], version[i]) {
+        if is_image_right(board::is_capable(b, i as u64), pending[i], version[i]) {
             i += 1;
         } else {
             return false;
@@ -66,13 +61,13 @@ fn is_state_right(rec: Record) -> bool
     let s = rec.state;
     match crate::subject_of(s) {
         Subject::Nothing => true,
-        Subject::Component(c) => {
+        Subject::Of(c) => {
             let b = rec.board;
             let pending = rec.pending;
             let version = rec.version;
             is_subject_right(
                 board::numbered(b, c),
-                crate::goes_alone(s),
+                crate::skips_rendezvous(s),
                 crate::is_pending(pending, c),
                 crate::version_of(version, c),
             )
@@ -113,13 +108,6 @@ fn is_held_right(s: State, on: CpuSet, held: CpuSet) -> bool
     }
 }
 
-fn may_reset(b: Board, c: u64) -> bool
-    ensures { λ r. ⌜ r ≡ mayReset b c ⌝ }
-{
-    let part = board::numbered(b, c);
-    part.may_reset
-}
-
 fn keeps_entries(b: Board, s: State) -> bool
     ensures { λ r. ⌜ r ≡ keepsEntries b s ⌝ }
 {
@@ -128,18 +116,18 @@ fn keeps_entries(b: Board, s: State) -> bool
         State::Preparing(_) => false,
         State::HalfPrepared(_) => false,
         State::Ready(_) => false,
-        State::Gathering(c) => may_reset(b, c),
-        State::Together(c) => may_reset(b, c),
+        State::Gathering(c) => board::may_reset(b, c),
+        State::Together(c) => board::may_reset(b, c),
         State::Alone(_) => false,
         State::HalfActivated(_) => false,
         State::Dead => false,
     }
 }
 
-fn is_entry_right(first: u64, last: u64, kept: bool, entry: u64, context: u64) -> bool
-    ensures { λ r. ⌜ r ≡ entryStands first last kept entry context ⌝ }
+fn is_entry_right(first: u64, last: u64, keeps: bool, entry: u64, context: u64) -> bool
+    ensures { λ r. ⌜ r ≡ entryStands first last keeps entry context ⌝ }
 {
-    if kept {
+    if keeps {
         board::good_entry(first, last, entry)
     } else {
         if entry == 0 { context == 0 } else { false }
@@ -147,8 +135,8 @@ fn is_entry_right(first: u64, last: u64, kept: bool, entry: u64, context: u64) -
 }
 
 // The CPUs whose entries are kept: the held ones or none.
-fn kept(b: Board, s: State, held: CpuSet) -> CpuSet
-    ensures { λ r. ⌜ r ≡ keptOf b s held ⌝ }
+fn keepers(b: Board, s: State, held: CpuSet) -> CpuSet
+    ensures { λ r. ⌜ r ≡ keepersOf b s held ⌝ }
 {
     if keeps_entries(b, s) {
         held
@@ -160,18 +148,18 @@ fn kept(b: Board, s: State, held: CpuSet) -> CpuSet
 fn are_entries_right(
     first: u64,
     last: u64,
-    kept: CpuSet,
+    keepers: CpuSet,
     entry: [u64; board::MOST_CPUS],
     context: [u64; board::MOST_CPUS],
 ) -> bool
-    ensures { λ r. ⌜ r ≡ entriesStand first last kept entry context ⌝ }
+    ensures { λ r. ⌜ r ≡ entriesStand first last keepers entry context ⌝ }
 {
     let mut i: usize = 0;
     while i < board::MOST_CPUS {
         if is_entry_right(
             first,
             last,
-            cpuset::has(kept, i as u64),
+            cpuset::has(keepers, i as u64),
             entry[i],
             context[i],
         ) {
@@ -183,25 +171,35 @@ fn are_entries_right(
     true
 }
 
-// What stands past the board: the powered CPUs, the images, the state, the held CPUs and their entries.
+// What the board is at: the state, the held CPUs and their entries.
+fn is_work_right(rec: Record) -> bool
+    ensures { λ r. ⌜ r ≡ workStands rec ⌝ }
+{
+    let b = rec.board;
+    let s = rec.state;
+    let on = rec.on;
+    let held = rec.held;
+    let entry = rec.entry;
+    let context = rec.context;
+    if is_state_right(rec) {
+        if is_held_right(s, on, held) {
+            return are_entries_right(b.first, b.last, keepers(b, s, held), entry, context);
+        }
+    }
+    false
+}
+
+// What stands past the board: the powered CPUs, the images, and what the board is at.
 pub(crate) fn is_rest_right(rec: Record) -> bool
     ensures { λ r. ⌜ r ≡ restStands rec ⌝ }
 {
     let b = rec.board;
+    let on = rec.on;
     let pending = rec.pending;
     let version = rec.version;
-    let on = rec.on;
-    let held = rec.held;
-    let s = rec.state;
-    let entry = rec.entry;
-    let context = rec.context;
     if is_powered_right(b.cpus, on) {
         if are_images_right(b, pending, version) {
-            if is_state_right(rec) {
-                if is_held_right(s, on, held) {
-                    return are_entries_right(b.first, b.last, kept(b, s, held), entry, context);
-                }
-            }
+            return is_work_right(rec);
         }
     }
     false

@@ -9,8 +9,8 @@ use Rattle.basics.specs.Choice.{pick, pick-cases, not-both, refuted, and-left, 
 use Rattle.cpuset.specs.Set.{hasOf, onlyOf, withOf, sameOf}
 use Rattle.cpuset.specs.Laws.{same-is}
 use Rattle.cpuset.specs.declared.CpuSet.{CpuSet}
-use Rattle.board.specs.Description.{numberedOf, goodEntry}
-use Rattle.board_record.specs.Record.{subjectOf, isFor, holdingOf, goesAlone, isGathering, isPending, versionOf}
+use Rattle.board.specs.Description.{numberedOf, isCapable, mayReset, goodEntry}
+use Rattle.board_record.specs.Record.{subjectOf, isFor, holdingOf, skipsRendezvous, isGathering, isAlone, isPending, versionOf}
 use Rattle.board_record.specs.WellFormed.{heldStand, wellFormed}
 use Rattle.board_record.proofs.Clauses.{told}
 use Rattle.board_record.specs.declared.Holding.the-variants.{All}
@@ -18,7 +18,7 @@ use Rattle.board_record.specs.declared.Record.{Record}
 use Rattle.board_record.specs.declared.State.{State}
 use Rattle.board_record.specs.declared.State.the-variants.{Idle, Preparing, HalfPrepared, Ready, Gathering, Together, Alone, HalfActivated, Dead}
 use Rattle.board_record.specs.declared.Subject.the-variants as subject
-use Rattle.rules.specs.Moves.{minusOf, numberOf, isCapable, isAlone}
+use Rattle.rules.specs.Statuses.{minusOf, numberOf}
 use Rattle.rules.specs.Numbers.{versionNumber, cancelNumber, decodeOf}
 use Rattle.rules.specs.Table.{ruleOf}
 use Rattle.rules.specs.Calls.{returned, says, noCaller, featuresOf, infoOf, inventoryOf, arrivalOf, mayPrime, tryPrimeOf, trySameOf, primeBy, skips, skipRight, fieldsRight, entryRight, joinOf, tryActivateOf, activateBy, isOther, cancelBy, cancelOf, offFree, offBy, wakeBy, onOf, functionOf, answerBy, answerOf, callOf}
@@ -30,7 +30,7 @@ use Rattle.rules.specs.declared.Event.{Event}
 use Rattle.rules.specs.declared.Event.the-variants as event
 use Rattle.rules.specs.declared.Image.{Image}
 use Rattle.rules.specs.declared.Move.{Move}
-use Rattle.rules.specs.declared.Move.the-variants.{Refuse, Return, NoteInfo, StartPrime, Gather, StartTogether, StartAlone, Withdraw, PowerOff, PowerOn, EndPrime, EndActivate, Arrive}
+use Rattle.rules.specs.declared.Move.the-variants.{Refuse, Return, NoteInfo, StartPrime, Gather, StartTogether, StartAlone, ToIdle, PowerOff, PowerOn, EndPrime, EndActivate, NoteImage}
 use Rattle.rules.specs.declared.Refusal.{Refusal}
 use Rattle.rules.specs.declared.Refusal.the-variants.{NotWellFormed}
 use Rattle.rules.specs.declared.Registers.{Registers}
@@ -105,7 +105,7 @@ Gatherable Dead id = ⊥
 pub record Joins (r : Record) (e : Event) (a : Arrival) (all : Bool) : Type 0 where
   pub by : Called r e
   pub asks : Asks (by .call) function.Activate
-  pub arrival : a ≡ arrivalOf (by .call) (numberedOf (r .board) (by .call .x1) .«may_reset»)
+  pub arrival : a ≡ arrivalOf (by .call) (mayReset (r .board) (by .call .x1))
   pub state : Gatherable (r .state) (by .call .x1)
   pub flags : by .call .x2 ≡ 0
   pub entry : entryRight (r .board) (by .call) ≡ true
@@ -143,7 +143,7 @@ Cancellable (Alone c) id = ⊥
 Cancellable (HalfActivated c) id = c ≡ id
 Cancellable Dead id = ⊥
 
-pub record Withdraws (r : Record) (e : Event) : Type 0 where
+pub record GoesIdle (r : Record) (e : Event) : Type 0 where
   pub by : Called r e
   pub asks : Asks (by .call) function.Cancel
   pub state : Cancellable (r .state) (by .call .x1)
@@ -172,9 +172,9 @@ pub record EndsPrime (r : Record) (e : Event) (p : Report) : Type 0 where
 pub record EndsActivate (r : Record) (e : Event) (p : Report) : Type 0 where
   pub event : e ≡ event.Activate p
   pub running : isActivating (r .state) (p .component) ≡ true
-  pub allowed : activateAllows (isAlone (r .state)) (numberedOf (r .board) (p .component) .«may_reset») (p .code) ≡ true
+  pub allowed : activateAllows (isAlone (r .state)) (mayReset (r .board) (p .component)) (p .code) ≡ true
 
-pub record Arrives (r : Record) (e : Event) (i : Image) : Type 0 where
+pub record NotesImage (r : Record) (e : Event) (i : Image) : Type 0 where
   pub event : e ≡ event.Image i
   pub capable : isCapable (r .board) (i .component) ≡ true
   pub other : isFor (r .state) (i .component) ≡ false
@@ -187,12 +187,12 @@ Facts r e (StartPrime a) = Primes r e a
 Facts r e (Gather a) = Joins r e a false
 Facts r e (StartTogether a) = Joins r e a true
 Facts r e (StartAlone a) = Skips r e a
-Facts r e Withdraw = Withdraws r e
+Facts r e ToIdle = GoesIdle r e
 Facts r e (PowerOff cpu) = TurnsOff r e cpu
 Facts r e (PowerOn w) = TurnsOn r e w
 Facts r e (EndPrime p) = EndsPrime r e p
 Facts r e (EndActivate p) = EndsActivate r e p
-Facts r e (Arrive i) = Arrives r e i
+Facts r e (NoteImage i) = NotesImage r e i
 
 -- the same behind a name, so that a proof goes along a rule without opening it
 unfoldable pub Guard : Record → Event → Move → Type 0
@@ -243,7 +243,7 @@ no-try k e = let z : _≡_ {A = ℕ} 0 1 = cc in absurd (omega arith)
 no-try-caller : {A : Type 0} → activate.NoCaller ≡ activate.Try → A
 no-try-caller e = let z : _≡_ {A = ℕ} 0 1 = cc in absurd (omega arith)
 
-gatherable : (s : State) (id : ℕ) → Tried s → isFor s id ≡ true → goesAlone s ≡ false → Gatherable s id
+gatherable : (s : State) (id : ℕ) → Tried s → isFor s id ≡ true → skipsRendezvous s ≡ false → Gatherable s id
 gatherable Idle id t f g = no-try 7 t
 gatherable (Preparing c) id t f g = no-try 7 t
 gatherable (HalfPrepared c) id t f g = no-try 7 t
@@ -398,11 +398,11 @@ module _ (r : Record) (e : Event) (by : Called r e) where
 
   joins : Asks call function.Activate → Tried (r .state) → fieldsRight r call ≡ true → entryRight (r .board) call ≡ true → skips call ≡ false
       → (all : Bool) → sameOf (withOf (r .held) (call .cpu)) (r .on) ≡ all
-      → Joins r e (arrivalOf call (numberedOf (r .board) (call .x1) .«may_reset»)) all
+      → Joins r e (arrivalOf call (mayReset (r .board) (call .x1))) all
   unfolding skipRight
   joins a t f entry k all p =
       let g = fields f in
-      let h : not (goesAlone (r .state)) ≡ true = rw k at (g .2) in
+      let h : not (skipsRendezvous (r .state)) ≡ true = rw k at (g .2) in
       let ne = eqb-false (call .x2) 1 k in
       let le = g .1 in
       record {
@@ -447,18 +447,18 @@ module _ (r : Record) (e : Event) (by : Called r e) where
   unfolding returned
   nothing q = made r e (Return _) (record { by = by; cancelled = λ c z. q })
 
-  withdraws : Asks call function.Cancel → Cancellable (r .state) (call .x1) → Guard r e Withdraw
-  withdraws a s = made r e Withdraw (record { by = by; asks = a; state = s })
+  goes-idle : Asks call function.Cancel → Cancellable (r .state) (call .x1) → Guard r e ToIdle
+  goes-idle a s = made r e ToIdle (record { by = by; asks = a; state = s })
 
   cancel-cell : Asks call function.Cancel → (s : State) → r .state ≡ s → isOther s (call .x1) ≡ false → Guard r e (cancelBy (ruleOf s .cancel))
   cancel-cell a Idle q o = nothing (rw q)
   cancel-cell a (Preparing c) q o = denied 2 (λ z. omega arith) (omega arith)
-  cancel-cell a (HalfPrepared c) q o = withdraws a (in-state Cancellable q (eqb-true c (call .x1) (not-false _ o)))
-  cancel-cell a (Ready c) q o = withdraws a (in-state Cancellable q (eqb-true c (call .x1) (not-false _ o)))
-  cancel-cell a (Gathering c) q o = withdraws a (in-state Cancellable q (eqb-true c (call .x1) (not-false _ o)))
+  cancel-cell a (HalfPrepared c) q o = goes-idle a (in-state Cancellable q (eqb-true c (call .x1) (not-false _ o)))
+  cancel-cell a (Ready c) q o = goes-idle a (in-state Cancellable q (eqb-true c (call .x1) (not-false _ o)))
+  cancel-cell a (Gathering c) q o = goes-idle a (in-state Cancellable q (eqb-true c (call .x1) (not-false _ o)))
   cancel-cell a (Together c) q o = nobody-calls (rw q)
   cancel-cell a (Alone c) q o = denied 2 (λ z. omega arith) (omega arith)
-  cancel-cell a (HalfActivated c) q o = withdraws a (in-state Cancellable q (eqb-true c (call .x1) (not-false _ o)))
+  cancel-cell a (HalfActivated c) q o = goes-idle a (in-state Cancellable q (eqb-true c (call .x1) (not-false _ o)))
   cancel-cell a Dead q o = nothing (rw q)
 
   cancel-guard : Asks call function.Cancel → Guard r e (cancelOf r call)
@@ -539,7 +539,7 @@ module _ (r : Record) where
   activate-report-guard p =
       let e = event.Activate p in
       pick-cases (Guard r e) (isActivating (r .state) (p .component)) _ _
-      (λ t. pick-cases (Guard r e) (activateAllows (isAlone (r .state)) (numberedOf (r .board) (p .component) .«may_reset») (p .code)) _ _
+      (λ t. pick-cases (Guard r e) (activateAllows (isAlone (r .state)) (mayReset (r .board) (p .component)) (p .code)) _ _
       (λ u. made r e (EndActivate p) (record { event = refl; running = t; allowed = u })) (λ u. other r e _ (λ q. omega arith)))
       (λ t. other r e _ (λ q. omega arith))
 
@@ -549,7 +549,7 @@ module _ (r : Record) where
       let e = event.Image i in
       pick-cases (Guard r e) (isCapable (r .board) (i .component)) _ _
       (λ t. pick-cases (Guard r e) (isFor (r .state) (i .component)) _ _ (λ u. other r e _ (λ q. omega arith))
-      (λ u. made r e (Arrive i) (record { event = refl; capable = t; other = u })))
+      (λ u. made r e (NoteImage i) (record { event = refl; capable = t; other = u })))
       (λ t. other r e _ (λ q. omega arith))
 
   event-guard : (e : Event) → Guard r e (eventOf r e)

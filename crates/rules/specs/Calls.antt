@@ -6,15 +6,16 @@ use lib.Dec.{eqb, leb, ltb}
 use lib.ListN.{getD}
 use Rattle.basics.specs.Choice.{pick}
 use Rattle.cpuset.specs.Set.{hasOf, onlyOf, withOf, sameOf}
-use Rattle.board.specs.Description.{numberedOf, goodEntry}
+use Rattle.board.specs.Description.{numberedOf, isCapable, mayReset, goodEntry}
+use Rattle.board.specs.Packed.{digitOf}
 use Rattle.board.specs.declared.Board.{Board}
 use Rattle.board.specs.declared.Component.{Component}
-use Rattle.board_record.specs.Record.{subjectOf, isFor, goesAlone, isGathering, isPending, versionOf}
+use Rattle.board_record.specs.Record.{subjectOf, isFor, skipsRendezvous, isGathering, isAlone, isPending, versionOf}
 use Rattle.board_record.specs.declared.Record.{Record}
 use Rattle.board_record.specs.declared.State.{State}
 use Rattle.board_record.specs.declared.Subject.{Subject}
 use Rattle.board_record.specs.declared.Subject.the-variants as subject
-use Rattle.rules.specs.Moves.{minusOf, isCapable, isAlone}
+use Rattle.rules.specs.Statuses.{minusOf}
 use Rattle.rules.specs.Numbers.{versionNumber, cancelNumber, decodeOf}
 use Rattle.rules.specs.Table.{ruleOf}
 use Rattle.rules.specs.declared.Call.{Call}
@@ -22,7 +23,7 @@ use Rattle.rules.specs.declared.Registers.{Registers}
 use Rattle.rules.specs.declared.Arrival.{Arrival}
 use Rattle.rules.specs.declared.Refusal.the-variants.{NotWellFormed, NoSuchCpu, CpuOff, CpuHeld}
 use Rattle.rules.specs.declared.Move.{Move}
-use Rattle.rules.specs.declared.Move.the-variants.{Refuse, Return, NoteInfo, StartPrime, Gather, StartTogether, StartAlone, Withdraw, PowerOff, PowerOn}
+use Rattle.rules.specs.declared.Move.the-variants.{Refuse, Return, NoteInfo, StartPrime, Gather, StartTogether, StartAlone, ToIdle, PowerOff, PowerOn}
 use Rattle.rules.specs.declared.cells.PrimeCell.{PrimeCell}
 use Rattle.rules.specs.declared.cells.PrimeCell.the-variants as prime
 use Rattle.rules.specs.declared.cells.ActivateCell.{ActivateCell}
@@ -44,7 +45,7 @@ returned x0 = Return (record { x0 = x0; x1 = 0; x2 = 0; x3 = 0 })
 abbrev pub says : ℕ → Move
 says k = returned (minusOf k)
 
--- "no caller exists" in together of a well-formed record
+-- "no caller exists" in together: on a well-formed record no call comes to this (`never-nine` of the agent)
 abbrev pub noCaller : Move
 noCaller = Refuse NotWellFormed
 
@@ -66,10 +67,6 @@ lowestFirst (suc n) s i = getD s i 0 + 256 * lowestFirst n s (suc i)
 abbrev pub wordOf : List ℕ → ℕ → ℕ
 wordOf uuid i = lowestFirst 8 uuid i
 
-abbrev pub digitOf : Bool → ℕ
-digitOf true = 1
-digitOf false = 0
-
 -- "bit 0 capable, 1 pending, 2 may_reset, 3 optional"
 abbrev pub flagsOf : Component → Bool → ℕ
 flagsOf c pending = digitOf (c .capable) + 2 * digitOf pending + 4 * digitOf (c .«may_reset») + 8 * digitOf (c .optional)
@@ -90,10 +87,10 @@ inventoryOf r x1 =
 
 -- ---- PRIME
 
--- the caller becomes held; X3 and X4 count only with may_reset
+-- the caller becomes held; where it resumes is kept only for a rendezvous with may_reset
 unfoldable pub arrivalOf : Call → Bool → Arrival
-arrivalOf call reset =
-    record { component = call .x1; cpu = call .cpu; entry = pick reset (call .x3) 0; context = pick reset (call .x4) 0 }
+arrivalOf call keeps =
+    record { component = call .x1; cpu = call .cpu; entry = pick keeps (call .x3) 0; context = pick keeps (call .x4) 0 }
 
 -- "-7 for an id that is no component, .. not capable or not pending"
 unfoldable pub mayPrime : Record → ℕ → Bool
@@ -126,9 +123,9 @@ primeOf r call = primeBy (ruleOf (r .state) .prime) r call
 abbrev pub skips : Call → Bool
 skips call = eqb (call .x2) 1
 
--- no "skip in gathering", no "skip on a component that isn't optional", no "no skip in alone or half-activated"
+-- skip needs optional and no gathering; without skip, no activation without rendezvous began
 unfoldable pub skipRight : Component → State → Bool → Bool
-skipRight c s skip = pick skip (pick (isGathering s) false (c .optional)) (not (goesAlone s))
+skipRight c s skip = pick skip (pick (isGathering s) false (c .optional)) (not (skipsRendezvous s))
 
 -- else -8: "an id that is not the state's, .. flags above bit 0"
 unfoldable pub fieldsRight : Record → Call → Bool
@@ -138,12 +135,12 @@ fieldsRight r call =
 
 -- "with may_reset, -10 unless X3 is a multiple of 4 in the range; without it X3 and X4 are ignored"
 unfoldable pub entryRight : Board → Call → Bool
-entryRight b call = pick (numberedOf b (call .x1) .«may_reset») (goodEntry (b .first) (b .last) (call .x3)) true
+entryRight b call = pick (mayReset b (call .x1)) (goodEntry (b .first) (b .last) (call .x3)) true
 
 -- "Without skip the caller is held; if all powered CPUs are now held, activation starts, state together; else gathering"
 unfoldable pub joinOf : Record → Call → Move
 joinOf r call =
-    let a = arrivalOf call (numberedOf (r .board) (call .x1) .«may_reset») in
+    let a = arrivalOf call (mayReset (r .board) (call .x1)) in
     pick (sameOf (withOf (r .held) (call .cpu)) (r .on)) (StartTogether a) (Gather a)
 
 -- "Then -2 in alone. Then skip starts activation, state alone, caller held"
@@ -168,13 +165,13 @@ activateOf r call = activateBy (ruleOf (r .state) .activate) r call
 -- ---- CANCEL: "in idle and dead 0 for any id. Elsewhere -8 for another id before the cell applies"
 abbrev pub isOtherThan : Subject → ℕ → Bool
 isOtherThan subject.Nothing id = false
-isOtherThan (subject.Component c) id = not (eqb c id)
+isOtherThan (subject.Of c) id = not (eqb c id)
 
 abbrev pub isOther : State → ℕ → Bool
 isOther s id = isOtherThan (subjectOf s) id
 
 abbrev pub cancelBy : CancelCell → Move
-cancelBy cancel.ToIdle = Withdraw
+cancelBy cancel.ToIdle = ToIdle
 cancelBy (cancel.Answers k) = says k
 cancelBy cancel.NoCaller = noCaller
 

@@ -22,9 +22,9 @@ eventOf r (event.Image i) = imageOf r i
 
 -- 9, 1: "record not well formed"; "a resume table is shorter than the CPU count"
 unfoldable pub decideOf : Record → Event → ℕ → ℕ → Move
-decideOf r e entries contexts =
+decideOf r e entryPlaces contextPlaces =
     pick (wellFormed r)
-    (pick (ltb entries (r .board .cpus)) (Refuse TableShort)
-    (pick (ltb contexts (r .board .cpus)) (Refuse TableShort)
+    (pick (ltb entryPlaces (r .board .cpus)) (Refuse TableShort)
+    (pick (ltb contextPlaces (r .board .cpus)) (Refuse TableShort)
     (eventOf r e)))
     (Refuse NotWellFormed)

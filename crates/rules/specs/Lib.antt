@@ -1,4 +1,4 @@
-pub mod Moves
+pub mod Statuses
 pub mod Numbers
 pub mod Table
 pub mod Calls

@@ -3,17 +3,16 @@ use Prim.Native.Nat.{ℕ}
 use mathlib.Core.Bool.{Bool, true, false, not, _&&_}
 use lib.Dec.{eqb}
 use Rattle.basics.specs.Choice.{pick}
-use Rattle.board.specs.Description.{numberedOf}
-use Rattle.board_record.specs.Record.{isFor}
+use Rattle.board.specs.Description.{isCapable, mayReset}
+use Rattle.board_record.specs.Record.{isFor, isAlone}
 use Rattle.board_record.specs.declared.Record.{Record}
 use Rattle.board_record.specs.declared.State.{State}
 use Rattle.board_record.specs.declared.State.the-variants.{Idle, Preparing, HalfPrepared, Ready, Gathering, Together, Alone, HalfActivated, Dead}
-use Rattle.rules.specs.Moves.{isCapable, isAlone}
 use Rattle.rules.specs.declared.Report.{Report}
 use Rattle.rules.specs.declared.Image.{Image}
-use Rattle.rules.specs.declared.Refusal.the-variants.{NoSuchJob, CodeNotAllowed, NotCapable, InHand}
+use Rattle.rules.specs.declared.Refusal.the-variants.{NoSuchJob, CodeNotAllowed, NotCapable, StateComponent}
 use Rattle.rules.specs.declared.Move.{Move}
-use Rattle.rules.specs.declared.Move.the-variants.{Refuse, EndPrime, EndActivate, Arrive}
+use Rattle.rules.specs.declared.Move.the-variants.{Refuse, EndPrime, EndActivate, NoteImage}
 
 -- a prime job is running for component id
 abbrev pub isPriming : State → ℕ → Bool
@@ -39,7 +38,7 @@ isActivating (Alone c) id = eqb c id
 isActivating (HalfActivated c) id = false
 isActivating Dead id = false
 
--- "Prime allows 0, 1, 3, 4, 6, 11"
+-- "Prime allows 0 .., 1 .., 3, 4, 6, 11 .."
 unfoldable pub primeAllows : ℕ → Bool
 primeAllows code =
     pick (eqb code 0) true
@@ -50,7 +49,11 @@ primeAllows code =
     (pick (eqb code 11) true
     false)))))
 
--- "12 in together with may_reset only"
+-- the code of "done by reset"
+abbrev pub byReset : ℕ
+byReset = 12
+
+-- "12 in together with may_reset only": an activate job that is not in alone is in together
 abbrev pub resumesOf : Bool → Bool → Bool
 resumesOf alone reset = not alone && reset
 
@@ -66,7 +69,7 @@ activateAllows alone reset code =
     (pick (eqb code 6) true
     (pick (eqb code 9) true
     (pick (eqb code 11) true
-    (pick (eqb code 12) (resumesOf alone reset)
+    (pick (eqb code byReset) (resumesOf alone reset)
     false)))))))))
 
 -- 5, 6: "no job of that kind running for that component; code not allowed for it"
@@ -80,7 +83,7 @@ primeReportOf r p =
 unfoldable pub activateReportOf : Record → Report → Move
 activateReportOf r p =
     pick (isActivating (r .state) (p .component))
-    (pick (activateAllows (isAlone (r .state)) (numberedOf (r .board) (p .component) .«may_reset») (p .code)) (EndActivate p)
+    (pick (activateAllows (isAlone (r .state)) (mayReset (r .board) (p .component)) (p .code)) (EndActivate p)
     (Refuse CodeNotAllowed))
     (Refuse NoSuchJob)
 
@@ -88,6 +91,6 @@ activateReportOf r p =
 unfoldable pub imageOf : Record → Image → Move
 imageOf r i =
     pick (isCapable (r .board) (i .component))
-    (pick (isFor (r .state) (i .component)) (Refuse InHand)
-    (Arrive i))
+    (pick (isFor (r .state) (i .component)) (Refuse StateComponent)
+    (NoteImage i))
     (Refuse NotCapable)

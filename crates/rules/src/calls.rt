@@ -19,7 +19,8 @@ use board_record::Subject;
 ghost use mathlib.Core.Path.{_≡_};
 ghost use Prim.Native.Nat.{_+_, _≤_};
 ghost use Rattle.board.specs.Description.{uuidBytes};
-ghost use Rattle.rules.specs.Calls.{returned, says, noCaller, digitOf, wordOf, flagsOf, describedOf, featuresOf, infoOf, inventoryOf, mayPrime, arrivalOf, tryPrimeOf, trySameOf, primeOf, skipRight, fieldsRight, entryRight, joinOf, tryActivateOf, activateOf, isOther, cancelOf, offFree, offOf, wakeOf, onOf, functionOf, answerOf, callOf};
+ghost use Rattle.board.specs.Packed.{digitOf};
+ghost use Rattle.rules.specs.Calls.{returned, says, noCaller, wordOf, flagsOf, describedOf, featuresOf, infoOf, inventoryOf, mayPrime, arrivalOf, tryPrimeOf, trySameOf, primeOf, skipRight, fieldsRight, entryRight, joinOf, tryActivateOf, activateOf, isOther, cancelOf, offFree, offOf, wakeOf, onOf, functionOf, answerOf, callOf};
 
 // The caller goes on with X0, and 0 in the other registers.
 fn go_on(x0: u64) -> Move
@@ -126,18 +127,18 @@ fn may_prime(rec: Record, id: u64) -> bool
     ensures { λ r. ⌜ r ≡ mayPrime rec id ⌝ }
 {
     let b = rec.board;
-    if crate::is_capable(b, id) {
+    if board::is_capable(b, id) {
         let pending = rec.pending;
         return board_record::is_pending(pending, id);
     }
     false
 }
 
-// A caller that becomes held; what it says of its resuming counts only with may_reset.
-fn arrival(call: Call, reset: bool) -> Arrival
-    ensures { λ r. ⌜ r ≡ arrivalOf call reset ⌝ }
+// A caller that becomes held; where it resumes is kept only for a rendezvous with may_reset.
+fn arrival(call: Call, keeps: bool) -> Arrival
+    ensures { λ r. ⌜ r ≡ arrivalOf call keeps ⌝ }
 {
-    if reset {
+    if keeps {
         Arrival {
             component: call.x1,
             cpu: call.cpu,
@@ -204,7 +205,7 @@ fn is_skip_right(c: Component, s: State, skip: bool) -> bool
         }
         return c.optional;
     }
-    !board_record::goes_alone(s)
+    !board_record::skips_rendezvous(s)
 }
 
 // The id is the state's, no flag stands above bit 0, and skip fits.
@@ -225,8 +226,7 @@ fn are_fields_right(rec: Record, call: Call) -> bool
 fn is_entry_right(b: Board, call: Call) -> bool
     ensures { λ r. ⌜ r ≡ entryRight b call ⌝ }
 {
-    let c = board::numbered(b, call.x1);
-    if c.may_reset {
+    if board::may_reset(b, call.x1) {
         return board::good_entry(b.first, b.last, call.x3);
     }
     true
@@ -237,8 +237,7 @@ fn join(rec: Record, call: Call) -> Move
     ensures { λ r. ⌜ r ≡ joinOf rec call ⌝ }
 {
     let b = rec.board;
-    let c = board::numbered(b, call.x1);
-    let a = arrival(call, c.may_reset);
+    let a = arrival(call, board::may_reset(b, call.x1));
     let on = rec.on;
     let held = rec.held;
     if cpuset::same(cpuset::with(held, call.cpu), on) {
@@ -255,7 +254,7 @@ fn try_activate(rec: Record, call: Call) -> Move
     let b = rec.board;
     if are_fields_right(rec, call) {
         if is_entry_right(b, call) {
-            if crate::is_alone(s) {
+            if board_record::is_alone(s) {
                 return say(2);
             }
             if call.x2 == 1 {
@@ -287,7 +286,7 @@ fn is_other(s: State, id: u64) -> bool
 {
     match board_record::subject_of(s) {
         Subject::Nothing => false,
-        Subject::Component(c) => c != id,
+        Subject::Of(c) => c != id,
     }
 }
 
@@ -301,7 +300,7 @@ fn cancel(rec: Record, call: Call) -> Move
     let row = crate::cells::rule(s);
     let cell = row.cancel;
     match cell {
-        CancelCell::ToIdle => Move::Withdraw,
+        CancelCell::ToIdle => Move::ToIdle,
         CancelCell::Answers(k) => say(k),
         CancelCell::NoCaller => no_caller(),
     }

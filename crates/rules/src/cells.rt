@@ -41,54 +41,63 @@ pub struct Row {
 const STATES: usize = 9;
 
 const RULES: [Row; STATES] = [
+    // idle
     Row {
         prime: PrimeCell::Try,
         activate: ActivateCell::Answers(7),
         cancel: CancelCell::Answers(0),
         power: PowerCell::Free,
     },
+    // preparing
     Row {
         prime: PrimeCell::Answers(2),
         activate: ActivateCell::Answers(7),
         cancel: CancelCell::Answers(2),
         power: PowerCell::Free,
     },
+    // half-prepared
     Row {
         prime: PrimeCell::TrySame,
         activate: ActivateCell::Answers(7),
         cancel: CancelCell::ToIdle,
         power: PowerCell::Free,
     },
+    // ready
     Row {
         prime: PrimeCell::Answers(7),
         activate: ActivateCell::Try,
         cancel: CancelCell::ToIdle,
         power: PowerCell::Free,
     },
+    // gathering
     Row {
         prime: PrimeCell::Answers(7),
         activate: ActivateCell::Try,
         cancel: CancelCell::ToIdle,
         power: PowerCell::Frozen,
     },
+    // together
     Row {
         prime: PrimeCell::NoCaller,
         activate: ActivateCell::NoCaller,
         cancel: CancelCell::NoCaller,
         power: PowerCell::NoCaller,
     },
+    // alone
     Row {
         prime: PrimeCell::Answers(7),
         activate: ActivateCell::Try,
         cancel: CancelCell::Answers(2),
         power: PowerCell::Frozen,
     },
+    // half-activated
     Row {
         prime: PrimeCell::Answers(7),
         activate: ActivateCell::Try,
         cancel: CancelCell::ToIdle,
         power: PowerCell::Frozen,
     },
+    // dead
     Row {
         prime: PrimeCell::Answers(7),
         activate: ActivateCell::Answers(7),

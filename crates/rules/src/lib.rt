@@ -5,11 +5,9 @@ mod numbers;
 mod reports;
 
 ghost use mathlib.Core.Path.{_≡_};
-ghost use Rattle.rules.specs.Moves.{minusOf, numberOf, isCapable, isAlone};
+ghost use Rattle.rules.specs.Statuses.{minusOf, numberOf};
 ghost use Rattle.rules.specs.Decide.{decideOf};
-use board::Board;
 use board_record::Record;
-use board_record::State;
 
 // The function numbers: LFA's own are VERSION to CANCEL, the power calls are PSCI's.
 pub const VERSION: u64 = 0xC400_02E0;
@@ -29,6 +27,9 @@ pub const CANCEL: u64 = 0xC400_02E6;
 pub const CPU_OFF: u64 = 0x8400_0002;
 
 pub const CPU_ON: u64 = 0xC400_0003;
+
+// The code of an activation that is done by reset.
+pub const BY_RESET: u64 = 12;
 
 // A call: which CPU makes it, and its registers.
 pub struct Call {
@@ -70,7 +71,7 @@ pub enum Refusal {
     NoSuchJob,
     CodeNotAllowed,
     NotCapable,
-    InHand,
+    StateComponent,
 }
 
 // What a caller goes on with.
@@ -105,12 +106,12 @@ pub enum Move {
     Gather(Arrival),
     StartTogether(Arrival),
     StartAlone(Arrival),
-    Withdraw,
+    ToIdle,
     PowerOff(u64),
     PowerOn(Waking),
     EndPrime(Report),
     EndActivate(Report),
-    Arrive(Image),
+    NoteImage(Image),
 }
 
 // The number of a refusal.
@@ -126,11 +127,11 @@ pub fn number(r: Refusal) -> u64
         Refusal::NoSuchJob => 5,
         Refusal::CodeNotAllowed => 6,
         Refusal::NotCapable => 7,
-        Refusal::InHand => 8,
+        Refusal::StateComponent => 8,
     }
 }
 
-// The status -k as a register holds it; 0 is 0.
+// A status -k, given without its sign, as a register holds it; 0 is 0.
 pub fn minus(k: u64) -> u64
     ensures { λ r. ⌜ r ≡ minusOf k ⌝ }
 {
@@ -141,43 +142,16 @@ pub fn minus(k: u64) -> u64
     }
 }
 
-// Whether the board has component id, and it is capable.
-fn is_capable(b: Board, id: u64) -> bool
-    ensures { λ r. ⌜ r ≡ isCapable b id ⌝ }
-{
-    if id < b.components {
-        let c = board::numbered(b, id);
-        return c.capable;
-    }
-    false
-}
-
-fn is_alone(s: State) -> bool
-    ensures { λ r. ⌜ r ≡ isAlone s ⌝ }
-{
-    match s {
-        State::Idle => false,
-        State::Preparing(_) => false,
-        State::HalfPrepared(_) => false,
-        State::Ready(_) => false,
-        State::Gathering(_) => false,
-        State::Together(_) => false,
-        State::Alone(_) => true,
-        State::HalfActivated(_) => false,
-        State::Dead => false,
-    }
-}
-
-// What an event calls for, where the two resume tables have these lengths.
-pub fn decide(rec: Record, e: Event, entries: usize, contexts: usize) -> Move
-    ensures { λ r. ⌜ r ≡ decideOf rec e entries contexts ⌝ }
+// What an event calls for, where the two resume tables have so many places.
+pub fn decide(rec: Record, e: Event, entry_places: usize, context_places: usize) -> Move
+    ensures { λ r. ⌜ r ≡ decideOf rec e «entry_places» «context_places» ⌝ }
 {
     if board_record::is_well_formed(rec) {
         let cpus = rec.board.cpus;
-        if (entries as u64) < cpus {
+        if (entry_places as u64) < cpus {
             return Move::Refuse(Refusal::TableShort);
         }
-        if (contexts as u64) < cpus {
+        if (context_places as u64) < cpus {
             return Move::Refuse(Refusal::TableShort);
         }
         match e {

@@ -1,4 +1,5 @@
 // The two reports, and images.
+use crate::BY_RESET;
 use crate::Image;
 use crate::Move;
 use crate::Refusal;
@@ -76,7 +77,7 @@ fn activate_allows(alone: bool, reset: bool, code: u64) -> bool
         6 => true,
         9 => true,
         11 => true,
-        12 => resumes(alone, reset),
+        BY_RESET => resumes(alone, reset),
         _ => false,
     }
 }
@@ -100,8 +101,8 @@ pub(crate) fn activate(rec: Record, report: Report) -> Move
     let s = rec.state;
     let b = rec.board;
     if is_activating(s, report.component) {
-        let c = board::numbered(b, report.component);
-        if activate_allows(crate::is_alone(s), c.may_reset, report.code) {
+        let reset = board::may_reset(b, report.component);
+        if activate_allows(board_record::is_alone(s), reset, report.code) {
             return Move::EndActivate(report);
         }
         return Move::Refuse(Refusal::CodeNotAllowed);
@@ -114,11 +115,11 @@ pub(crate) fn image(rec: Record, image: Image) -> Move
 {
     let b = rec.board;
     let s = rec.state;
-    if crate::is_capable(b, image.component) {
+    if board::is_capable(b, image.component) {
         if board_record::is_for(s, image.component) {
-            return Move::Refuse(Refusal::InHand);
+            return Move::Refuse(Refusal::StateComponent);
         }
-        return Move::Arrive(image);
+        return Move::NoteImage(image);
     }
     Move::Refuse(Refusal::NotCapable)
 }

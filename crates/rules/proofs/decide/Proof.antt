@@ -23,7 +23,7 @@ returns-2 c =
     (yes _ (lt-ltb _ _ (c .if3 .taken)) refl))
 
 -- the record is well formed, and both tables are long enough
-stands : (c : tie.Else3) → let a = c .before .before .before .before .args in (z : Move) → z ≡ eventOf (a .rec) (a .e) → z ≡ decideOf (a .rec) (a .e) (a .entries) (a .contexts)
+stands : (c : tie.Else3) → let a = c .before .before .before .before .args in (z : Move) → z ≡ eventOf (a .rec) (a .e) → z ≡ decideOf (a .rec) (a .e) (a .entry-places) (a .context-places)
 unfolding decideOf
 stands c z p =
     yes _ (by (c .before .before .before .is-well-formed .ensures) (c .before .before .if1 .taken))

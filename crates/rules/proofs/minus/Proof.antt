@@ -2,7 +2,7 @@ use mathlib.Core.Path.{refl}
 use native.Mathlib.Omega.{arith}
 use borrow.Author.Tests.{eq-eqb, ne-eqb}
 use Rattle.basics.specs.Choice.{no, yes}
-use Rattle.rules.specs.Moves.{minusOf}
+use Rattle.rules.specs.Statuses.{minusOf}
 use borrow.Author.Needs.{needs}
 use Rattle.rules.proofs.minus.Statement.{statement}
 use Rattle.rules.proofs.minus.Tie as tie

@@ -23,32 +23,32 @@ note-info-requires c κs = search needs
 enum-known-m-3 : tie.Need-enum-known-m-3
 enum-known-m-3 c = search needs
 
-join-requires : tie.Need-join-requires
-join-requires c κs = search needs
+hold-requires : tie.Need-hold-requires
+hold-requires c κs = search needs
 
 enum-known-m-4 : tie.Need-enum-known-m-4
 enum-known-m-4 c = search needs
 
-join-requires-2 : tie.Need-join-requires-2
-join-requires-2 c κs = search needs
+hold-requires-2 : tie.Need-hold-requires-2
+hold-requires-2 c κs = search needs
 
 enum-known-m-5 : tie.Need-enum-known-m-5
 enum-known-m-5 c = search needs
 
-join-requires-3 : tie.Need-join-requires-3
-join-requires-3 c κs = search needs
+hold-requires-3 : tie.Need-hold-requires-3
+hold-requires-3 c κs = search needs
 
 enum-known-m-6 : tie.Need-enum-known-m-6
 enum-known-m-6 c = search needs
 
-join-requires-4 : tie.Need-join-requires-4
-join-requires-4 c κs = search needs
+hold-requires-4 : tie.Need-hold-requires-4
+hold-requires-4 c κs = search needs
 
 enum-told-2 : tie.Need-enum-told-2
 enum-told-2 c = search needs
 
-withdraw-requires : tie.Need-withdraw-requires
-withdraw-requires c κs = search needs
+to-idle-requires : tie.Need-to-idle-requires
+to-idle-requires c κs = search needs
 
 enum-known-m-7 : tie.Need-enum-known-m-7
 enum-known-m-7 c = search needs
@@ -77,8 +77,8 @@ end-activate-requires c κs = search needs
 enum-known-m-11 : tie.Need-enum-known-m-11
 enum-known-m-11 c = search needs
 
-arrived-requires : tie.Need-arrived-requires
-arrived-requires c κs = search needs
+with-image-requires : tie.Need-with-image-requires
+with-image-requires c κs = search needs
 
 accepted-requires-2 : tie.Need-accepted-requires-2
 accepted-requires-2 c κs = search needs
@@ -93,19 +93,19 @@ returns-3 : tie.Need-returns-3
 returns-3 c = rw (c .before .enum-told .given .1) (c .note-info .ensures)
 
 returns-4 : tie.Need-returns-4
-returns-4 c = rw (c .before .before .m3 .given .1) (c .join .ensures)
+returns-4 c = rw (c .before .before .m3 .given .1) (c .hold .ensures)
 
 returns-5 : tie.Need-returns-5
-returns-5 c = rw (c .before .before .m4 .given .1) (c .join2 .ensures)
+returns-5 c = rw (c .before .before .m4 .given .1) (c .hold2 .ensures)
 
 returns-6 : tie.Need-returns-6
-returns-6 c = rw (c .before .before .m5 .given .1) (c .join3 .ensures)
+returns-6 c = rw (c .before .before .m5 .given .1) (c .hold3 .ensures)
 
 returns-7 : tie.Need-returns-7
-returns-7 c = rw (c .before .before .m6 .given .1) (c .join4 .ensures)
+returns-7 c = rw (c .before .before .m6 .given .1) (c .hold4 .ensures)
 
 returns-8 : tie.Need-returns-8
-returns-8 c = rw (c .before .enum-told2 .given .1) (c .withdraw .ensures)
+returns-8 c = rw (c .before .enum-told2 .given .1) (c .to-idle .ensures)
 
 returns-9 : tie.Need-returns-9
 returns-9 c = rw (c .before .before .m7 .given .1) (c .power-off .ensures)
@@ -120,7 +120,7 @@ returns-12 : tie.Need-returns-12
 returns-12 c = rw (c .before .before .m10 .given .1) (c .end-activate .ensures)
 
 returns-13 : tie.Need-returns-13
-returns-13 c = rw (c .before .before .before .m11 .given .1) (rw (c .before .arrived .ensures) at (c .accepted2 .ensures))
+returns-13 c = rw (c .before .before .before .m11 .given .1) (rw (c .before .with-image .ensures) at (c .accepted2 .ensures))
 
 pub perform-spec : {M : Type 1} → statement M
 perform-spec =
@@ -133,15 +133,15 @@ perform-spec =
     enum-told
     note-info-requires
     enum-known-m-3
-    join-requires
+    hold-requires
     enum-known-m-4
-    join-requires-2
+    hold-requires-2
     enum-known-m-5
-    join-requires-3
+    hold-requires-3
     enum-known-m-6
-    join-requires-4
+    hold-requires-4
     enum-told-2
-    withdraw-requires
+    to-idle-requires
     enum-known-m-7
     power-off-requires
     enum-known-m-8
@@ -151,7 +151,7 @@ perform-spec =
     enum-known-m-10
     end-activate-requires
     enum-known-m-11
-    arrived-requires
+    with-image-requires
     accepted-requires-2
     returns
     returns-2

@@ -18,11 +18,8 @@ abbrev μ-loop : tie.MeasureT-loop
 loop-holds : tie.Need-loop-holds Inv-loop μ-loop
 loop-holds c = (search needs, all-none _)
 
-mul-c : tie.Need-mul-c Inv-loop μ-loop
-mul-c c = search needs
-
-element-copy-out-c : tie.Need-element-copy-out-c Inv-loop μ-loop
-element-copy-out-c c = search needs
+is-capable-requires : tie.Need-is-capable-requires Inv-loop μ-loop
+is-capable-requires c κs = search needs
 
 array-read-is-image-right : tie.Need-array-read-is-image-right Inv-loop μ-loop
 array-read-is-image-right c = search needs
@@ -43,11 +40,11 @@ loop-less : tie.Need-loop-less Inv-loop μ-loop
 loop-less c = search needs
 
 loop-again : tie.Need-loop-again Inv-loop μ-loop
-loop-again c = (search needs, all-more _ _ (c .before .before .before .before .loop .inv .1) (by (c .before .is-image-right .ensures) (c .if1 .taken)))
+loop-again c = (search needs, all-more _ _ (c .before .before .before .before .loop .inv .1) (by (rw (c .before .before .is-capable .ensures) at (c .before .is-image-right .ensures)) (c .if1 .taken)))
 
 returns : tie.Need-returns Inv-loop μ-loop
 unfolding imagesStand
-returns c = all-fails _ _ _ (c .before .before .before .loop-test .taken) (by (c .before .is-image-right .ensures) (c .if1 .left))
+returns c = all-fails _ _ _ (c .before .before .before .loop-test .taken) (by (rw (c .before .before .is-capable .ensures) at (c .before .is-image-right .ensures)) (c .if1 .left))
 
 returns-2 : tie.Need-returns-2 Inv-loop μ-loop
 unfolding imagesStand
@@ -60,8 +57,7 @@ are-images-right-spec =
     Inv-loop
     μ-loop
     loop-holds
-    mul-c
-    element-copy-out-c
+    is-capable-requires
     array-read-is-image-right
     mul-is-image-right
     array-read-is-image-right-2

@@ -4,15 +4,11 @@ use Rattle.board_record.proofs.standing.is_image_right.Tie as tie
 
 returns : tie.Need-returns
 unfolding imageStands
-returns c = rw (c .before .if1 .taken, c .if2 .taken)
+returns c = rw (c .if1 .taken)
 
 returns-2 : tie.Need-returns-2
 unfolding imageStands
-returns-2 c = rw (c .before .if1 .taken, c .if2 .left)
-
-returns-3 : tie.Need-returns-3
-unfolding imageStands
-returns-3 c = rw (c .if1 .left)
+returns-2 c = rw (c .if1 .left)
 
 pub is-image-right-spec : {M : Type 1} → statement M
-is-image-right-spec = tie.close (tie.spec returns returns-2 returns-3)
+is-image-right-spec = tie.close (tie.spec returns returns-2)

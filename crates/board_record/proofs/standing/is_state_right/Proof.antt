@@ -16,8 +16,8 @@ enum-known-c c = search needs
 numbered-requires : tie.Need-numbered-requires
 numbered-requires c κs = search needs
 
-goes-alone-requires : tie.Need-goes-alone-requires
-goes-alone-requires c κs = search needs
+skips-rendezvous-requires : tie.Need-skips-rendezvous-requires
+skips-rendezvous-requires c κs = search needs
 
 is-pending-requires : tie.Need-is-pending-requires
 is-pending-requires c κs = search needs
@@ -36,7 +36,7 @@ returns-2 : tie.Need-returns-2
 unfolding stateStands
 returns-2 c =
     let p = c .before .before .before .before in
-    rw (sym (p .before .before .before .before .before .before .before .subject-of .ensures) ∙ p .before .before .before .before .before .c .given .1, ← p .numbered .ensures, ← c .before .before .before .goes-alone .ensures, ← c .before .before .is-pending .ensures, ← c .before .version-of .ensures) (c .is-subject-right .ensures)
+    rw (sym (p .before .before .before .before .before .before .before .subject-of .ensures) ∙ p .before .before .before .before .before .c .given .1, ← p .numbered .ensures, ← c .before .before .before .skips-rendezvous .ensures, ← c .before .before .is-pending .ensures, ← c .before .version-of .ensures) (c .is-subject-right .ensures)
 
 pub is-state-right-spec : {M : Type 1} → statement M
 is-state-right-spec =
@@ -46,7 +46,7 @@ is-state-right-spec =
     enum-told
     enum-known-c
     numbered-requires
-    goes-alone-requires
+    skips-rendezvous-requires
     is-pending-requires
     version-of-requires
     is-subject-right-requires

@@ -16,13 +16,13 @@ returns-2 : tie.Need-returns-2
 unfolding skipRight
 returns-2 c = yes _ (c .before .before .if1 .taken) (no _ (by (c .before .is-gathering .ensures) (c .if2 .left)) refl)
 
-goes-alone-requires : tie.Need-goes-alone-requires
-goes-alone-requires c κs = search needs
+skips-rendezvous-requires : tie.Need-skips-rendezvous-requires
+skips-rendezvous-requires c κs = search needs
 
 returns-3 : tie.Need-returns-3
 unfolding skipRight
-returns-3 c = no _ (c .before .if1 .left) (rw (c .goes-alone .ensures))
+returns-3 c = no _ (c .before .if1 .left) (rw (c .skips-rendezvous .ensures))
 
 pub is-skip-right-spec : {M : Type 1} → statement M
 is-skip-right-spec =
-    tie.close (tie.spec is-gathering-requires returns returns-2 goes-alone-requires returns-3)
+    tie.close (tie.spec is-gathering-requires returns returns-2 skips-rendezvous-requires returns-3)

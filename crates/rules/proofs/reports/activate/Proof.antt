@@ -8,8 +8,8 @@ use Rattle.rules.proofs.reports.activate.Tie as tie
 is-activating-requires : tie.Need-is-activating-requires
 is-activating-requires c κs = search needs
 
-numbered-requires : tie.Need-numbered-requires
-numbered-requires c κs = search needs
+may-reset-requires : tie.Need-may-reset-requires
+may-reset-requires c κs = search needs
 
 is-alone-requires : tie.Need-is-alone-requires
 is-alone-requires c κs = search needs
@@ -22,14 +22,14 @@ unfolding activateReportOf
 returns c =
     let first = c .before .before .before .before in
     yes _ (by (first .before .is-activating .ensures) (first .if1 .taken))
-    (yes _ (by (rw (c .before .before .is-alone .ensures, c .before .before .before .numbered .ensures) at (c .before .activate-allows .ensures)) (c .if2 .taken)) refl)
+    (yes _ (by (rw (c .before .before .is-alone .ensures, c .before .before .before .may-reset .ensures) at (c .before .activate-allows .ensures)) (c .if2 .taken)) refl)
 
 returns-2 : tie.Need-returns-2
 unfolding activateReportOf
 returns-2 c =
     let first = c .before .before .before .before in
     yes _ (by (first .before .is-activating .ensures) (first .if1 .taken))
-    (no _ (by (rw (c .before .before .is-alone .ensures, c .before .before .before .numbered .ensures) at (c .before .activate-allows .ensures)) (c .if2 .left)) refl)
+    (no _ (by (rw (c .before .before .is-alone .ensures, c .before .before .before .may-reset .ensures) at (c .before .activate-allows .ensures)) (c .if2 .left)) refl)
 
 returns-3 : tie.Need-returns-3
 unfolding activateReportOf
@@ -40,7 +40,7 @@ activate-spec =
     tie.close
     (tie.spec
     is-activating-requires
-    numbered-requires
+    may-reset-requires
     is-alone-requires
     activate-allows-requires
     returns

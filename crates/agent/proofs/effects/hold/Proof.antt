@@ -1,6 +1,6 @@
 use borrow.Author.Needs.{needs}
-use Rattle.agent.proofs.effects.join.Statement.{statement}
-use Rattle.agent.proofs.effects.join.Tie as tie
+use Rattle.agent.proofs.effects.hold.Statement.{statement}
+use Rattle.agent.proofs.effects.hold.Tie as tie
 
 joined-requires : tie.Need-joined-requires
 joined-requires c κs = search needs
@@ -11,5 +11,5 @@ accepted-requires c κs = search needs
 returns : tie.Need-returns
 returns c = rw (c .accepted .ensures, c .before .joined .ensures)
 
-pub join-spec : {M : Type 1} → statement M
-join-spec = tie.close (tie.spec joined-requires accepted-requires returns)
+pub hold-spec : {M : Type 1} → statement M
+hold-spec = tie.close (tie.spec joined-requires accepted-requires returns)

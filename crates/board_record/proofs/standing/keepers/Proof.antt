@@ -1,8 +1,8 @@
 use borrow.Author.Needs.{needs}
 use mathlib.Core.Path.{refl}
 use Rattle.basics.specs.Choice.{yes, no, by}
-use Rattle.board_record.proofs.standing.kept.Statement.{statement}
-use Rattle.board_record.proofs.standing.kept.Tie as tie
+use Rattle.board_record.proofs.standing.keepers.Statement.{statement}
+use Rattle.board_record.proofs.standing.keepers.Tie as tie
 
 keeps-entries-requires : tie.Need-keeps-entries-requires
 keeps-entries-requires c κs = search needs
@@ -16,5 +16,5 @@ returns c = yes _ (by (c .before .keeps-entries .ensures) (c .if1 .taken)) refl
 returns-2 : tie.Need-returns-2
 returns-2 c = no _ (by (c .before .before .keeps-entries .ensures) (c .before .if1 .left)) (c .none .ensures)
 
-pub kept-spec : {M : Type 1} → statement M
-kept-spec = tie.close (tie.spec keeps-entries-requires none-requires returns returns-2)
+pub keepers-spec : {M : Type 1} → statement M
+keepers-spec = tie.close (tie.spec keeps-entries-requires none-requires returns returns-2)

@@ -1,6 +1,6 @@
 use borrow.Author.Needs.{needs}
-use Rattle.board_record.proofs.standing.may_reset.Statement.{statement}
-use Rattle.board_record.proofs.standing.may_reset.Tie as tie
+use Rattle.board.proofs.may_reset.Statement.{statement}
+use Rattle.board.proofs.may_reset.Tie as tie
 
 numbered-requires : tie.Need-numbered-requires
 numbered-requires c κs = search needs

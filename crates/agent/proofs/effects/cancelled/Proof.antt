@@ -1,7 +1,7 @@
 use Rattle.basics.specs.Choice.{by, yes}
 use borrow.Author.Needs.{needs}
-use Rattle.agent.proofs.effects.withdrawn.Statement.{statement}
-use Rattle.agent.proofs.effects.withdrawn.Tie as tie
+use Rattle.agent.proofs.effects.cancelled.Statement.{statement}
+use Rattle.agent.proofs.effects.cancelled.Tie as tie
 
 is-gathering-requires : tie.Need-is-gathering-requires
 is-gathering-requires c κs = search needs
@@ -18,6 +18,6 @@ returns c = yes _ (by (c .before .before .before .is-gathering .ensures) (c .bef
 returns-2 : tie.Need-returns-2
 returns-2 c = search needs
 
-pub withdrawn-spec : {M : Type 1} → statement M
-withdrawn-spec =
+pub cancelled-spec : {M : Type 1} → statement M
+cancelled-spec =
     tie.close (tie.spec is-gathering-requires minus-requires freed-requires returns returns-2)

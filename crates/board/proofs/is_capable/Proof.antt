@@ -1,8 +1,8 @@
 use borrow.Author.Tests.{le-ltb, lt-ltb}
-use Rattle.rules.specs.Moves.{isCapable}
+use Rattle.board.specs.Description.{isCapable}
 use borrow.Author.Needs.{needs}
-use Rattle.rules.proofs.is_capable.Statement.{statement}
-use Rattle.rules.proofs.is_capable.Tie as tie
+use Rattle.board.proofs.is_capable.Statement.{statement}
+use Rattle.board.proofs.is_capable.Tie as tie
 
 numbered-requires : tie.Need-numbered-requires
 numbered-requires c κs = search needs
