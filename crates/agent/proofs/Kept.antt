@@ -1,17 +1,18 @@
 -- Every step keeps a well-formed record well formed. Assumes nothing.
 use Prim.Native.Nat.{ℕ, _<_}
 use mathlib.Core.Path.{_≡_, refl, sym, ap, subst, _∙_}
-use mathlib.Core.Bool.{Bool, true, false, not, _&&_, and-false, and-true, or-false, or-true}
+use mathlib.Core.Bool.{Bool, true, false, _&&_}
 use mathlib.Core.List.{List, [], _∷_}
 use native.Mathlib.Omega.{arith}
-use lib.Dec.{eqb, leb, ltb}
+use lib.Dec.{eqb, leb}
 use lib.ListN.{length, set, length-set}
 use lib.Seq.{getD-set-same, getD-set-other}
-use borrow.Author.Tests.{lt-ltb, le-leb, eq-eqb, ne-eqb, eqb-true, eqb-false}
-use Rattle.basics.specs.Choice.{pick, pick-cases, not-both, refuted, and-left, and-right, or-cases}
+use borrow.Author.Tests.{lt-ltb, le-leb, eqb-true, eqb-false}
+use Rattle.basics.specs.Choice.{pick, pick-cases, not-both, and-left, and-right, or-cases}
 use Rattle.basics.specs.Every.{all-at, all-of}
-use Rattle.cpuset.specs.Set.{Set, room, hasOf, noneOf, onlyOf, belowOf, withOf, withoutOf, sameOf, withinOf, countOf}
-use Rattle.cpuset.specs.Laws.{has-room, has-none, has-only, has-with, has-without, has-below, set-only, set-below, set-with, set-without, set-within, same-members, same-is, same-eq, none-has, within-has, within-of, count-none, count-with}
+use Rattle.basics.specs.Order.{eq-cases}
+use Rattle.cpuset.specs.Set.{Set, room, hasOf, noneOf, belowOf, withOf, withoutOf, withinOf, countOf}
+use Rattle.cpuset.specs.Laws.{has-room, has-none, has-with, has-without, has-below, set-below, set-without, set-within, same-is, same-eq, within-has, within-of, count-none, count-with, with-self, with-other, without-other, with-some, without-some, with-within}
 use Rattle.cpuset.specs.declared.CpuSet.{CpuSet}
 use Rattle.board.specs.Description.{mostComponents, mostCpus, numberedOf, isCapable, mayReset, goodEntry}
 use Rattle.board.specs.declared.Board.{Board}
@@ -36,74 +37,28 @@ use Rattle.rules.specs.declared.Image.{Image}
 use Rattle.rules.specs.Calls.{arrivalOf, entryRight}
 use Rattle.rules.specs.declared.Report.{Report}
 use Rattle.rules.specs.declared.Waking.{Waking}
-use Rattle.rules.specs.declared.cells.PowerCell.the-variants as power
-use Rattle.rules.specs.Table.{ruleOf}
 use Rattle.rules.specs.Reports.{isPriming, isActivating, activateAllows}
-use Rattle.rules.proofs.Guards.{Primable, Gatherable, Skippable, Primes, Skips, Joins, TurnsOff, TurnsOn, EndsPrime, EndsActivate, NotesImage, Facts, facts, decide-guard}
+use Rattle.rules.proofs.Guards.{Primable, Gatherable, Skippable, Loose, Primes, Skips, Joins, TurnsOff, TurnsOn, EndsPrime, EndsActivate, NotesImage, Facts, facts, decide-guard}
 use Rattle.agent.specs.Perform.{refusedOf, acceptedOf, informedOf, joinedOf, settledOf, poweredOf, afterPrime, afterActivate, isDone, forgottenOf, endedOf, withImageOf, performOf}
 use Rattle.agent.specs.Step.{stepOf, after}
 
--- ---- sets
-
--- a caller joins
-has-joined : (s : CpuSet) (i : ℕ) → i < room → hasOf (withOf s i) i ≡ true
-has-joined s i l = rw (has-with, lt-ltb i room l, eq-eqb i i refl) (or-true (hasOf s i))
-
-has-others : (s : CpuSet) (i j : ℕ) → (j ≡ i → ⊥) → hasOf (withOf s i) j ≡ hasOf s j
-has-others s i j d = rw (has-with, ne-eqb i j (λ e. d (sym e)), and-false (ltb i room)) (or-false (hasOf s j))
-
-same-cases : {C : Type 0} (i j : ℕ) → (j ≡ i → C) → ((j ≡ i → ⊥) → C) → C
-same-cases {C} i j f g = go (eqb j i) refl
-  where
-    go : (t : Bool) → eqb j i ≡ t → C
-    go true e = f (eqb-true j i e)
-    go false e = g (eqb-false j i e)
-
--- if it is powered, all that are held are powered still
-with-within : (held on : CpuSet) (i : ℕ) → Set on → withinOf held on ≡ true → hasOf on i ≡ true → withinOf (withOf held i) on ≡ true
-with-within held on i s w h =
-    within-of (withOf held i) on (set-with held i (set-within held on s w)) λ j l p.
-    same-cases i j (λ e. ap (hasOf on) e ∙ h) (λ d. within-has held on w j (sym (has-others held i j d) ∙ p))
-
--- the one that is held alone
+-- ---- the one that is held alone
 one-held : (on : CpuSet) (i : ℕ) → Set on → hasOf on i ≡ true → withinOf noneOf on ≡ true
     → (withinOf (withOf noneOf i) on && eqb (countOf (withOf noneOf i)) 1) ≡ true
 one-held on i s h w =
     rw (with-within noneOf on i s w h, count-with noneOf i (has-room on i h) (has-none i), count-none)
 
--- with a caller there is somebody
-none-false : (held : CpuSet) (i : ℕ) → i < room → sameOf (withOf held i) noneOf ≡ false
-none-false held i l = refuted (sameOf (withOf held i) noneOf) (λ e. not-both (has-joined held i l) (none-has (withOf held i) e i))
-
--- without a CPU that is not the only one there is still somebody
-without-some : (s : CpuSet) (i : ℕ) → Set s → hasOf s i ≡ true → sameOf s (onlyOf i) ≡ false → sameOf (withoutOf s i) noneOf ≡ false
-without-some s i p h o =
-    refuted (sameOf (withoutOf s i) noneOf) λ e. not-both (same-eq s (onlyOf i) (same-members s (onlyOf i) p (set-only i) λ j l. same-cases i j (self e j) (far e j))) o
-  where
-    self : sameOf (withoutOf s i) noneOf ≡ true → (j : ℕ) → j ≡ i → hasOf s j ≡ hasOf (onlyOf i) j
-    self e j q = rw (q, h, has-only i i, lt-ltb i room (has-room s i h), eq-eqb i i refl)
-
-    far : sameOf (withoutOf s i) noneOf ≡ true → (j : ℕ) → (j ≡ i → ⊥) → hasOf s j ≡ hasOf (onlyOf i) j
-    far e j d =
-        let o : eqb i j ≡ false = ne-eqb i j (λ q. d (sym q)) in
-        let gone : (hasOf s j && not (ltb i room && eqb i j)) ≡ false = sym (has-without s i j) ∙ none-has (withoutOf s i) e j in
-        let h : hasOf s j ≡ false = rw (o, and-false (ltb i room), and-true (hasOf s j)) at gone in
-        rw (has-only i j, o, and-false (ltb i room)) h
-
-other : (i j : ℕ) → (j ≡ i → ⊥) → eqb i j ≡ false
-other i j d = ne-eqb i j (λ q. d (sym q))
-
 -- ---- the tables of the held CPUs
 
 -- with may_reset those that are kept are those that are held, and the caller; without it nobody is
 joined-others : (reset : Bool) (held : CpuSet) (i j : ℕ) → (j ≡ i → ⊥) → hasOf (pick reset (withOf held i) noneOf) j ≡ hasOf (pick reset held noneOf) j
-joined-others true held i j d = has-others held i j d
+joined-others true held i j d = with-other held i j d
 joined-others false held i j d = refl
 
 joined-entry : (reset : Bool) (first last : ℕ) (held : CpuSet) (i entry context : ℕ) → i < room → pick reset (goodEntry first last entry) true ≡ true
     → entryStands first last (hasOf (pick reset (withOf held i) noneOf) i) (pick reset entry 0) (pick reset context 0) ≡ true
 unfolding entryStands
-joined-entry true first last held i entry context l g = rw (has-joined held i l) g
+joined-entry true first last held i entry context l g = rw (with-self held i l) g
 joined-entry false first last held i entry context l g = rw (has-none i)
 
 -- a place written, and every other place as it was
@@ -113,7 +68,7 @@ entries-put : (first last : ℕ) (kept kept′ : CpuSet) (entry context : List �
     → entriesStand first last kept entry context ≡ true → entriesStand first last kept′ (set entry i v) (set context i w) ≡ true
 unfolding entriesStand
 entries-put first last kept kept′ entry context i v w a b others here before =
-    all-of mostCpus _ λ j l. same-cases i j (at j l) (λ d. rw (others j d, getD-set-other entry i j v 0 d, getD-set-other context i j w 0 d) (all-at mostCpus _ before j l))
+    all-of mostCpus _ λ j l. eq-cases j i (at j l) (λ d. rw (others j d, getD-set-other entry i j v 0 d, getD-set-other context i j w 0 d) (all-at mostCpus _ before j l))
   where
     at : (j : ℕ) → j < mostCpus → j ≡ i → entryAt first last kept′ (set entry i v) (set context i w) j ≡ true
     at j l e = rw (e, getD-set-same entry i v 0 (omega arith), getD-set-same context i w 0 (omega arith)) here
@@ -125,7 +80,7 @@ images-put : (b : Board) (pending : List Bool) (version : List ℕ) (i : ℕ) (n
     → imagesStand b pending version ≡ true → imagesStand b (set pending i now) (set version i v) ≡ true
 unfolding imagesStand
 images-put b pending version i now v a c here before =
-    all-of mostComponents _ λ j l. same-cases i j (at j l)
+    all-of mostComponents _ λ j l. eq-cases j i (at j l)
     (λ d. rw (getD-set-other pending i j now false d, getD-set-other version i j v 0 d) (all-at mostComponents _ before j l))
   where
     at : (j : ℕ) → j < mostComponents → j ≡ i → imageAt b (set pending i now) (set version i v) j ≡ true
@@ -253,16 +208,16 @@ subject-optional c alone pending version e a =
     let h : pick alone (c .optional) true ≡ true = and-right (leb (c .svn) version) _ (and-right pending _ e) in rw a at h
 
 -- where power calls are free, at most one CPU is held
-loose-held : (s : State) (on on′ held : CpuSet) → ruleOf s .power ≡ power.Free → heldStand s on held ≡ true → withinOf held on′ ≡ true → heldStand s on′ held ≡ true
+loose-held : (s : State) (on on′ held : CpuSet) → Loose s → heldStand s on held ≡ true → withinOf held on′ ≡ true → heldStand s on′ held ≡ true
 unfolding heldStand
 loose-held Idle on on′ held f h w = h
 loose-held (Preparing c) on on′ held f h w = rw w (and-right (withinOf held on) (eqb (countOf held) 1) h)
 loose-held (HalfPrepared c) on on′ held f h w = h
 loose-held (Ready c) on on′ held f h w = h
-loose-held (Gathering c) on on′ held f h w = let z : _≡_ {A = ℕ} 0 1 = cc in absurd (omega arith)
-loose-held (Together c) on on′ held f h w = let z : _≡_ {A = ℕ} 0 1 = cc in absurd (omega arith)
-loose-held (Alone c) on on′ held f h w = let z : _≡_ {A = ℕ} 0 1 = cc in absurd (omega arith)
-loose-held (HalfActivated c) on on′ held f h w = let z : _≡_ {A = ℕ} 0 1 = cc in absurd (omega arith)
+loose-held (Gathering c) on on′ held f h w = absurd f
+loose-held (Together c) on on′ held f h w = absurd f
+loose-held (Alone c) on on′ held f h w = absurd f
+loose-held (HalfActivated c) on on′ held f h w = absurd f
 loose-held Dead on on′ held f h w = h
 
 -- ---- each move
@@ -348,7 +303,7 @@ module _ (r : Record) (w : WellFormed r) (z : Sized r) where
   unfolding arrivalOf stateStands heldStand
   gather-kept-all e a g =
       let call = g .by .call in
-      let some = sym (none-false (r .held) (call .cpu) (has-room (r .on) (call .cpu) (g .by .powered))) in
+      let some = sym (with-some (r .held) (call .cpu) (has-room (r .on) (call .cpu) (g .by .powered))) in
       let id = ap (λ (x : Arrival). x .component) (g .arrival) in
       subst (λ (c : ℕ). WellFormed (joinedOf r (Gathering c) a)) (sym id)
       (gathered e a false g (Gathering (call .x1)) refl (calm (call .x1) (gather-subject (r .state) (call .x1) (g .state)))
@@ -387,7 +342,7 @@ module _ (r : Record) (w : WellFormed r) (z : Sized r) where
       (λ u. settled-kept (HalfPrepared (p .component)) same refl) (λ u. settled-kept Idle refl refl))
 
   -- other CPUs are powered, in a state whose power calls are free
-  powered-kept : (on : CpuSet) → ruleOf (r .state) .power ≡ power.Free → poweredStand (r .board .cpus) on ≡ true → withinOf (r .held) on ≡ true → WellFormed (poweredOf r on)
+  powered-kept : (on : CpuSet) → Loose (r .state) → poweredStand (r .board .cpus) on ≡ true → withinOf (r .held) on ≡ true → WellFormed (poweredOf r on)
   unfolding poweredOf
   powered-kept on free p h = record {
     board = w .board;
@@ -409,7 +364,7 @@ module _ (r : Record) (w : WellFormed r) (z : Sized r) where
       (within-of (withoutOf on cpu) below (set-without on cpu on-set)
       (λ j l p. within-has on below (powered-within (r .board .cpus) on (w .powered)) j (and-left (hasOf on j) _ (sym (has-without on cpu j) ∙ p)))))
       (within-of (r .held) (withoutOf on cpu) (set-within (r .held) on on-set held-on)
-      (λ j l p. rw (has-without on cpu j, within-has (r .held) on held-on j p, other cpu j (λ q. not-both p (ap (hasOf (r .held)) q ∙ free)), and-false (ltb cpu room))))
+      (λ j l p. without-other on cpu j (λ q. not-both p (ap (hasOf (r .held)) q ∙ free)) ∙ within-has (r .held) on held-on j p))
 
   on-kept : (e : Event) (x : Waking) → TurnsOn r e x → WellFormed (poweredOf r (withOf (r .on) (x .target)))
   unfolding poweredStand
@@ -419,7 +374,7 @@ module _ (r : Record) (w : WellFormed r) (z : Sized r) where
       let below = belowOf (r .board .cpus) in
       let fits : i < room = omega (arith, g .exists, stands-counted (r .board) (w .board) .fewCpus, room-most) in
       powered-kept (withOf on i) (g .loose)
-      (rw (none-false on i fits)
+      (rw (with-some on i fits)
       (with-within on below i (set-below (r .board .cpus)) (powered-within (r .board .cpus) on (w .powered))
       (rw (has-below (r .board .cpus) i, lt-ltb i room fits) (lt-ltb i (r .board .cpus) (g .exists)))))
       (within-of (r .held) (withOf on i) (set-within (r .held) on on-set held-on)

@@ -7,7 +7,7 @@ use crate::Refusal;
 use crate::UUID_BYTES;
 use crate::Verdict;
 ghost use mathlib.Core.Path.{_≡_};
-ghost use Prim.Native.Nat.{_+_, _<_, _≤_};
+ghost use Prim.Native.Nat.{_<_, _≤_};
 ghost use Rattle.board.specs.Description.{mostComponents, withinLimit, countsOf, parted, unseen, apart, distinct, sameUuid, judgedOf, isBlank, blankPast};
 ghost use Rattle.board.specs.Packed.{writableOf, isWritable};
 

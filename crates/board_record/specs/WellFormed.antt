@@ -60,8 +60,8 @@ heldBy All on held = sameOf held on
 unfoldable pub heldStand : State → CpuSet → CpuSet → Bool
 heldStand s on held = heldBy (holdingOf s) on held
 
--- "the entries and context ids of CPUs held for ACTIVATE with may_reset (0 elsewhere)": whose are kept. In alone there are none, since
--- optional and may_reset are never both set
+-- "the entries and context ids of CPUs held for ACTIVATE with may_reset (0 elsewhere)": whose are kept; in alone nobody's,
+-- since optional and may_reset are never both set
 abbrev pub keepsEntries : Board → State → Bool
 keepsEntries b Idle = false
 keepsEntries b (Preparing c) = false

@@ -9,9 +9,9 @@ use lib.ListN.{getD}
 use lib.Seq.{ext-getD}
 use lib.Bits.{bitOr, or-lt, xor-lt, and-le-l}
 use borrow.Author.Tests.{lt-ltb, le-ltb, eqb-true, eq-eqb, ne-eqb, not-false}
-use Rattle.basics.specs.Choice.{not-both}
+use Rattle.basics.specs.Choice.{not-both, refuted}
 use Rattle.basics.specs.Every.{all-at, all-of}
-use Rattle.basics.specs.Order.{lt-cases}
+use Rattle.basics.specs.Order.{lt-cases, eq-cases}
 use Rattle.basics.specs.Places.{firsts, getD-firsts}
 use Rattle.cpuset.specs.Bit.{bit, bit-zero, bit-or, bitLess, bit-less, less-none}
 use Rattle.cpuset.specs.Tally.{tally-same, tally-none, tally-zero, tally-more}
@@ -143,6 +143,39 @@ within-of s t p h = none-of (lessOf s t) (set-less s t p) λ j l. has-less s t j
     left true b f = rw (f refl)
     left false b f = refl
 
+-- ---- one member more or less
+only-self : (i : ℕ) → i < room → hasOf (onlyOf i) i ≡ true
+only-self i l = rw (has-only, lt-ltb i room l, eq-eqb i i refl)
+
+only-other : (i j : ℕ) → (j ≡ i → ⊥) → hasOf (onlyOf i) j ≡ false
+only-other i j d = rw (has-only, ne-eqb i j (λ e. d (sym e))) (and-false (ltb i room))
+
+pub with-self : (s : CpuSet) (i : ℕ) → i < room → hasOf (withOf s i) i ≡ true
+with-self s i l = rw (has-union, only-self i l) (or-true (hasOf s i))
+
+pub with-other : (s : CpuSet) (i j : ℕ) → (j ≡ i → ⊥) → hasOf (withOf s i) j ≡ hasOf s j
+with-other s i j d = rw (has-union, only-other i j d) (or-false (hasOf s j))
+
+pub without-other : (s : CpuSet) (i j : ℕ) → (j ≡ i → ⊥) → hasOf (withoutOf s i) j ≡ hasOf s j
+without-other s i j d = rw (has-less, only-other i j d) (and-true (hasOf s j))
+
+pub with-some : (s : CpuSet) (i : ℕ) → i < room → sameOf (withOf s i) noneOf ≡ false
+with-some s i l = refuted (sameOf (withOf s i) noneOf) (λ e. not-both (with-self s i l) (none-has (withOf s i) e i))
+
+-- without one that is not the only one
+pub without-some : (s : CpuSet) (i : ℕ) → Set s → hasOf s i ≡ true → sameOf s (onlyOf i) ≡ false → sameOf (withoutOf s i) noneOf ≡ false
+without-some s i p h o =
+    refuted (sameOf (withoutOf s i) noneOf) λ e.
+    not-both (same-eq s (onlyOf i) (same-members s (onlyOf i) p (set-only i) λ j l. eq-cases j i (self j) (far e j))) o
+  where
+    self : (j : ℕ) → j ≡ i → hasOf s j ≡ hasOf (onlyOf i) j
+    self j q = rw (q, h) (sym (only-self i (has-room s i h)))
+
+    far : sameOf (withoutOf s i) noneOf ≡ true → (j : ℕ) → (j ≡ i → ⊥) → hasOf s j ≡ hasOf (onlyOf i) j
+    far e j d = sym (without-other s i j d) ∙ none-has (withoutOf s i) e j ∙ sym (only-other i j d)
+
+-- ---- within a set
+
 -- what lies within a set is a set
 word-of : (f : ℕ → ℕ) (k : ℕ) → k < wordCount → word (of f) k ≡ f k
 unfolding firsts
@@ -155,6 +188,11 @@ set-within s t q e =
     let w : bitLess (word s k) (word t k) ≡ 0 =
     sym (word-of (λ i. bitLess (word s i) (word t i)) k l) ∙ ap (λ (u : CpuSet). word u k) (same-is (lessOf s t) noneOf e) ∙ word-of (λ i. 0) k l in
     lt-of-le-of-lt (less-none (word s k) (word t k) w) (words-at (words t) q k)
+
+pub with-within : (s t : CpuSet) (i : ℕ) → Set t → withinOf s t ≡ true → hasOf t i ≡ true → withinOf (withOf s i) t ≡ true
+with-within s t i p w h =
+    within-of (withOf s i) t (set-with s i (set-within s t p w)) λ j l q.
+    eq-cases j i (λ e. ap (hasOf t) e ∙ h) (λ d. within-has s t w j (sym (with-other s i j d) ∙ q))
 
 pub only-out : (i : ℕ) → room ≤ i → onlyOf i ≡ noneOf
 only-out i l = same-members (onlyOf i) noneOf (set-only i) set-none λ j m. rw (has-only, has-none, le-ltb i room l)
@@ -172,24 +210,17 @@ pub count-zero : (s : CpuSet) → countOf s ≡ 0 → (j : ℕ) → hasOf s j �
 unfolding countOf
 count-zero s z j = lt-cases j room (tally-zero room (hasOf s) z j) (has-out s j)
 
-only-self : (i : ℕ) → i < room → hasOf (onlyOf i) i ≡ true
-only-self i l = rw (has-only, lt-ltb i room l, eq-eqb i i refl)
-
-only-other : (i j : ℕ) → (j ≡ i → ⊥) → hasOf (onlyOf i) j ≡ false
-only-other i j d = rw (has-only, ne-eqb i j (λ e. d (sym e))) (and-false (ltb i room))
-
 pub count-with : (s : CpuSet) (i : ℕ) → i < room → hasOf s i ≡ false → countOf (withOf s i) ≡ countOf s + 1
 unfolding countOf
 count-with s i l h =
-    tally-more room (hasOf s) (hasOf (withOf s i)) i l h (rw (has-union, only-self i l) (or-true (hasOf s i)))
-    λ j d. rw (has-union, only-other i j d) (sym (or-false (hasOf s j)))
+    tally-more room (hasOf s) (hasOf (withOf s i)) i l h (with-self s i l) (λ j d. sym (with-other s i j d))
 
 pub count-without : (s : CpuSet) (i : ℕ) → hasOf s i ≡ true → countOf s ≡ countOf (withoutOf s i) + 1
 unfolding countOf
 count-without s i h =
     let l = has-room s i h in
     tally-more room (hasOf (withoutOf s i)) (hasOf s) i l (rw (has-less, only-self i l) (and-false (hasOf s i))) h
-    λ j d. rw (has-less, only-other i j d) (and-true (hasOf s j))
+    (without-other s i)
 
 -- what the code counts is that
 pub count-words : (s : CpuSet) → Set s → countOf s ≡ total (words s)

@@ -36,10 +36,6 @@ use Rattle.rules.specs.declared.Refusal.the-variants.{NotWellFormed}
 use Rattle.rules.specs.declared.Registers.{Registers}
 use Rattle.rules.specs.declared.Report.{Report}
 use Rattle.rules.specs.declared.Waking.{Waking}
-use Rattle.rules.specs.declared.cells.ActivateCell.{ActivateCell}
-use Rattle.rules.specs.declared.cells.ActivateCell.the-variants as activate
-use Rattle.rules.specs.declared.cells.PowerCell.{PowerCell}
-use Rattle.rules.specs.declared.cells.PowerCell.the-variants as power
 use Rattle.rules.specs.declared.numbers.Function.{Function}
 use Rattle.rules.specs.declared.numbers.Function.the-variants as function
 use Rattle.rules.specs.declared.numbers.Decoded.{Decoded}
@@ -148,11 +144,23 @@ pub record GoesIdle (r : Record) (e : Event) : Type 0 where
   pub asks : Asks (by .call) function.Cancel
   pub state : Cancellable (r .state) (by .call .x1)
 
+-- a state in which power calls are free
+abbrev pub Loose : State → Type 0
+Loose Idle = Unit
+Loose (Preparing c) = Unit
+Loose (HalfPrepared c) = Unit
+Loose (Ready c) = Unit
+Loose (Gathering c) = ⊥
+Loose (Together c) = ⊥
+Loose (Alone c) = ⊥
+Loose (HalfActivated c) = ⊥
+Loose Dead = Unit
+
 pub record TurnsOff (r : Record) (e : Event) (cpu : ℕ) : Type 0 where
   pub by : Called r e
   pub asks : Asks (by .call) function.CpuOff
   pub caller : cpu ≡ by .call .cpu
-  pub loose : ruleOf (r .state) .power ≡ power.Free
+  pub loose : Loose (r .state)
   pub others : sameOf (r .on) (onlyOf cpu) ≡ false
 
 pub record TurnsOn (r : Record) (e : Event) (w : Waking) : Type 0 where
@@ -162,7 +170,7 @@ pub record TurnsOn (r : Record) (e : Event) (w : Waking) : Type 0 where
   pub exists : w .target < r .board .cpus
   pub off : hasOf (r .on) (w .target) ≡ false
   pub entry : goodEntry (r .board .first) (r .board .last) (w .entry) ≡ true
-  pub loose : ruleOf (r .state) .power ≡ power.Free
+  pub loose : Loose (r .state)
 
 pub record EndsPrime (r : Record) (e : Event) (p : Report) : Type 0 where
   pub event : e ≡ event.Prime p
@@ -235,62 +243,41 @@ asksCancel Unknown = false
 
 -- the states in which ACTIVATE is tried, by what its fields passed
 abbrev Tried : State → Type 0
-Tried s = ruleOf s .activate ≡ activate.Try
-
-no-try : {A : Type 0} (k : ℕ) → activate.Answers k ≡ activate.Try → A
-no-try k e = let z : _≡_ {A = ℕ} 0 1 = cc in absurd (omega arith)
-
-no-try-caller : {A : Type 0} → activate.NoCaller ≡ activate.Try → A
-no-try-caller e = let z : _≡_ {A = ℕ} 0 1 = cc in absurd (omega arith)
+Tried Idle = ⊥
+Tried (Preparing c) = ⊥
+Tried (HalfPrepared c) = ⊥
+Tried (Ready c) = Unit
+Tried (Gathering c) = Unit
+Tried (Together c) = ⊥
+Tried (Alone c) = Unit
+Tried (HalfActivated c) = Unit
+Tried Dead = ⊥
 
 gatherable : (s : State) (id : ℕ) → Tried s → isFor s id ≡ true → skipsRendezvous s ≡ false → Gatherable s id
-gatherable Idle id t f g = no-try 7 t
-gatherable (Preparing c) id t f g = no-try 7 t
-gatherable (HalfPrepared c) id t f g = no-try 7 t
+gatherable Idle id t f g = absurd t
+gatherable (Preparing c) id t f g = absurd t
+gatherable (HalfPrepared c) id t f g = absurd t
 gatherable (Ready c) id t f g = eqb-true c id f
 gatherable (Gathering c) id t f g = eqb-true c id f
-gatherable (Together c) id t f g = no-try-caller t
+gatherable (Together c) id t f g = absurd t
 gatherable (Alone c) id t f g = not-both refl g
 gatherable (HalfActivated c) id t f g = not-both refl g
-gatherable Dead id t f g = no-try 7 t
+gatherable Dead id t f g = absurd t
 
 skippable : (s : State) (id : ℕ) → Tried s → isFor s id ≡ true → isAlone s ≡ false → isGathering s ≡ false → Skippable s id
-skippable Idle id t f a g = no-try 7 t
-skippable (Preparing c) id t f a g = no-try 7 t
-skippable (HalfPrepared c) id t f a g = no-try 7 t
+skippable Idle id t f a g = absurd t
+skippable (Preparing c) id t f a g = absurd t
+skippable (HalfPrepared c) id t f a g = absurd t
 skippable (Ready c) id t f a g = eqb-true c id f
 skippable (Gathering c) id t f a g = not-both refl g
-skippable (Together c) id t f a g = no-try-caller t
+skippable (Together c) id t f a g = absurd t
 skippable (Alone c) id t f a g = not-both refl a
 skippable (HalfActivated c) id t f a g = eqb-true c id f
-skippable Dead id t f a g = no-try 7 t
+skippable Dead id t f a g = absurd t
 
 passed : (stop ok : Bool) → pick stop false ok ≡ true → (stop ≡ false) × (ok ≡ true)
 passed true ok e = absurd (not-both refl (sym e))
 passed false ok e = (refl, e)
-
--- the states in which no caller exists: all are held there
-activate-all : (s : State) → ruleOf s .activate ≡ activate.NoCaller → holdingOf s ≡ All
-activate-all Idle e = let z : _≡_ {A = ℕ} 0 1 = cc in absurd (omega arith)
-activate-all (Preparing c) e = let z : _≡_ {A = ℕ} 0 1 = cc in absurd (omega arith)
-activate-all (HalfPrepared c) e = let z : _≡_ {A = ℕ} 0 1 = cc in absurd (omega arith)
-activate-all (Ready c) e = let z : _≡_ {A = ℕ} 0 1 = cc in absurd (omega arith)
-activate-all (Gathering c) e = let z : _≡_ {A = ℕ} 0 1 = cc in absurd (omega arith)
-activate-all (Together c) e = refl
-activate-all (Alone c) e = let z : _≡_ {A = ℕ} 0 1 = cc in absurd (omega arith)
-activate-all (HalfActivated c) e = let z : _≡_ {A = ℕ} 0 1 = cc in absurd (omega arith)
-activate-all Dead e = let z : _≡_ {A = ℕ} 0 1 = cc in absurd (omega arith)
-
-power-all : (s : State) → ruleOf s .power ≡ power.NoCaller → holdingOf s ≡ All
-power-all Idle e = let z : _≡_ {A = ℕ} 0 1 = cc in absurd (omega arith)
-power-all (Preparing c) e = let z : _≡_ {A = ℕ} 0 1 = cc in absurd (omega arith)
-power-all (HalfPrepared c) e = let z : _≡_ {A = ℕ} 0 1 = cc in absurd (omega arith)
-power-all (Ready c) e = let z : _≡_ {A = ℕ} 0 1 = cc in absurd (omega arith)
-power-all (Gathering c) e = let z : _≡_ {A = ℕ} 0 1 = cc in absurd (omega arith)
-power-all (Together c) e = refl
-power-all (Alone c) e = let z : _≡_ {A = ℕ} 0 1 = cc in absurd (omega arith)
-power-all (HalfActivated c) e = let z : _≡_ {A = ℕ} 0 1 = cc in absurd (omega arith)
-power-all Dead e = let z : _≡_ {A = ℕ} 0 1 = cc in absurd (omega arith)
 
 -- an accepted call; all that follows is about what it asks for
 module _ (r : Record) (e : Event) (by : Called r e) where
@@ -432,10 +419,16 @@ module _ (r : Record) (e : Event) (by : Called r e) where
       (λ g. said _ _ a refl))
       (λ f. said _ _ a refl)
 
-  activate-guard : Asks call function.Activate → (cell : ActivateCell) → ruleOf (r .state) .activate ≡ cell → Guard r e (activateBy cell r call)
-  activate-guard a activate.Try q = try-activate a q
-  activate-guard a (activate.Answers k) q = said _ _ a refl
-  activate-guard a activate.NoCaller q = nobody-calls (activate-all (r .state) q)
+  activate-guard : Asks call function.Activate → (s : State) → r .state ≡ s → Guard r e (activateBy (ruleOf s .activate) r call)
+  activate-guard a Idle q = said _ _ a refl
+  activate-guard a (Preparing c) q = said _ _ a refl
+  activate-guard a (HalfPrepared c) q = said _ _ a refl
+  activate-guard a (Ready c) q = try-activate a (subst Tried (sym q) tt)
+  activate-guard a (Gathering c) q = try-activate a (subst Tried (sym q) tt)
+  activate-guard a (Together c) q = nobody-calls (rw q)
+  activate-guard a (Alone c) q = try-activate a (subst Tried (sym q) tt)
+  activate-guard a (HalfActivated c) q = try-activate a (subst Tried (sym q) tt)
+  activate-guard a Dead q = said _ _ a refl
 
   -- a CANCEL that does not return 0
   denied : (k : ℕ) → (k ≡ 0 → ⊥) → k < 2 ^ 64 → Guard r e (says k)
@@ -466,28 +459,39 @@ module _ (r : Record) (e : Event) (by : Called r e) where
   cancel-guard a =
       pick-cases (Guard r e) (isOther (r .state) (call .x1)) _ _ (λ o. denied 8 (λ z. omega arith) (omega arith)) (cancel-cell a (r .state) refl)
 
-  off-guard : Asks call function.CpuOff → (cell : PowerCell) → ruleOf (r .state) .power ≡ cell → Guard r e (offBy cell r (call .cpu))
+  off-free : Asks call function.CpuOff → Loose (r .state) → Guard r e (offFree r (call .cpu))
   unfolding offFree
-  off-guard a power.Free q =
+  off-free a l =
       pick-cases (Guard r e) (sameOf (r .on) (onlyOf (call .cpu))) _ _ (λ t. said _ _ a refl)
-      (λ t. made r e (PowerOff (call .cpu)) (record { by = by; asks = a; caller = refl; loose = q; others = t }))
-  off-guard a power.Frozen q = said _ _ a refl
-  off-guard a power.NoCaller q = nobody-calls (power-all (r .state) q)
+      (λ t. made r e (PowerOff (call .cpu)) (record { by = by; asks = a; caller = refl; loose = l; others = t }))
 
-  wake-guard : Asks call function.CpuOn → call .x1 < r .board .cpus → goodEntry (r .board .first) (r .board .last) (call .x2) ≡ true
-      → hasOf (r .on) (call .x1) ≡ false → (cell : PowerCell) → ruleOf (r .state) .power ≡ cell → Guard r e (wakeBy cell call)
-  wake-guard a l g o power.Free q =
-      made r e (PowerOn (record { target = call .x1; entry = call .x2; context = call .x3 })) (record {
-        by = by;
-        asks = a;
-        target = refl;
-        exists = l;
-        off = o;
-        entry = g;
-        loose = q;
-      })
-  wake-guard a l g o power.Frozen q = said _ _ a refl
-  wake-guard a l g o power.NoCaller q = nobody-calls (power-all (r .state) q)
+  off-guard : Asks call function.CpuOff → (s : State) → r .state ≡ s → Guard r e (offBy (ruleOf s .power) r (call .cpu))
+  off-guard a Idle q = off-free a (subst Loose (sym q) tt)
+  off-guard a (Preparing c) q = off-free a (subst Loose (sym q) tt)
+  off-guard a (HalfPrepared c) q = off-free a (subst Loose (sym q) tt)
+  off-guard a (Ready c) q = off-free a (subst Loose (sym q) tt)
+  off-guard a (Gathering c) q = said _ _ a refl
+  off-guard a (Together c) q = nobody-calls (rw q)
+  off-guard a (Alone c) q = said _ _ a refl
+  off-guard a (HalfActivated c) q = said _ _ a refl
+  off-guard a Dead q = off-free a (subst Loose (sym q) tt)
+
+  -- a target that exists, is off and has a good entry
+  module _ (a : Asks call function.CpuOn) (l : call .x1 < r .board .cpus)
+      (g : goodEntry (r .board .first) (r .board .last) (call .x2) ≡ true) (o : hasOf (r .on) (call .x1) ≡ false) where
+    wakes : Loose (r .state) → Guard r e (PowerOn (record { target = call .x1; entry = call .x2; context = call .x3 }))
+    wakes f = made r e (PowerOn _) (record { by = by; asks = a; target = refl; exists = l; off = o; entry = g; loose = f })
+
+    wake-guard : (s : State) → r .state ≡ s → Guard r e (wakeBy (ruleOf s .power) call)
+    wake-guard Idle q = wakes (subst Loose (sym q) tt)
+    wake-guard (Preparing c) q = wakes (subst Loose (sym q) tt)
+    wake-guard (HalfPrepared c) q = wakes (subst Loose (sym q) tt)
+    wake-guard (Ready c) q = wakes (subst Loose (sym q) tt)
+    wake-guard (Gathering c) q = said _ _ a refl
+    wake-guard (Together c) q = nobody-calls (rw q)
+    wake-guard (Alone c) q = said _ _ a refl
+    wake-guard (HalfActivated c) q = said _ _ a refl
+    wake-guard Dead q = wakes (subst Loose (sym q) tt)
 
   on-guard : Asks call function.CpuOn → Guard r e (onOf r call)
   unfolding onOf
@@ -495,7 +499,7 @@ module _ (r : Record) (e : Event) (by : Called r e) where
       pick-cases (Guard r e) (leb (r .board .cpus) (call .x1)) _ _ (λ t. said _ _ a refl)
       (λ l. pick-cases (Guard r e) (goodEntry (r .board .first) (r .board .last) (call .x2)) _ _
       (λ g. pick-cases (Guard r e) (hasOf (r .on) (call .x1)) _ _ (λ t. said _ _ a refl)
-      (λ o. wake-guard a (leb-false _ _ l) g o (ruleOf (r .state) .power) refl))
+      (λ o. wake-guard a (leb-false _ _ l) g o (r .state) refl))
       (λ g. said _ _ a refl))
 
   function-guard : (f : Function) → Asks call f → Guard r e (functionOf r call f)
@@ -504,9 +508,9 @@ module _ (r : Record) (e : Event) (by : Called r e) where
   function-guard function.GetInfo a = info-guard a
   function-guard function.GetInventory a = inventory-guard a
   function-guard function.Prime a = prime-guard a (r .state) refl
-  function-guard function.Activate a = activate-guard a (ruleOf (r .state) .activate) refl
+  function-guard function.Activate a = activate-guard a (r .state) refl
   function-guard function.Cancel a = cancel-guard a
-  function-guard function.CpuOff a = off-guard a (ruleOf (r .state) .power) refl
+  function-guard function.CpuOff a = off-guard a (r .state) refl
   function-guard function.CpuOn a = on-guard a
 
   answer-guard : (d : Decoded) → decodeOf (call .x0 % 2 ^ 32) ≡ d → Guard r e (answerBy d r call)
