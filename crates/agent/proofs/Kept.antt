@@ -37,8 +37,9 @@ use Rattle.rules.specs.declared.Image.{Image}
 use Rattle.rules.specs.Calls.{arrivalOf, entryRight}
 use Rattle.rules.specs.declared.Report.{Report}
 use Rattle.rules.specs.declared.Waking.{Waking}
-use Rattle.rules.specs.Reports.{isPriming, isActivating, activateAllows}
-use Rattle.rules.proofs.Guards.{Primable, Gatherable, Skippable, Loose, Primes, Skips, Joins, TurnsOff, TurnsOn, EndsPrime, EndsActivate, NotesImage, Facts, facts, decide-guard}
+use Rattle.rules.specs.Reports.{activateAllows}
+use Rattle.rules.proofs.Guards.{Gatherable, Loose, Primes, Skips, Joins, TurnsOff, TurnsOn, EndsPrime, EndsActivate, NotesImage, Facts, facts, decide-guard}
+use Rattle.rules.proofs.States.{prime-rests, skip-rests, gather-subject, priming-subject, activating-subject}
 use Rattle.agent.specs.Perform.{refusedOf, acceptedOf, informedOf, joinedOf, settledOf, poweredOf, afterPrime, afterActivate, isDone, forgottenOf, endedOf, withImageOf, performOf}
 use Rattle.agent.specs.Step.{stepOf, after}
 
@@ -107,39 +108,6 @@ resting b (Alone c) h = refl
 resting b (HalfActivated c) h = refl
 resting b Dead h = refl
 
-prime-rests : (s : State) (id : ℕ) → Primable s id → holdingOf s ≡ Nobody
-prime-rests Idle id p = refl
-prime-rests (Preparing c) id p = absurd p
-prime-rests (HalfPrepared c) id p = refl
-prime-rests (Ready c) id p = absurd p
-prime-rests (Gathering c) id p = absurd p
-prime-rests (Together c) id p = absurd p
-prime-rests (Alone c) id p = absurd p
-prime-rests (HalfActivated c) id p = absurd p
-prime-rests Dead id p = absurd p
-
-skip-rests : (s : State) (id : ℕ) → Skippable s id → (holdingOf s ≡ Nobody) × (subjectOf s ≡ subject.Of id)
-skip-rests Idle id p = absurd p
-skip-rests (Preparing c) id p = absurd p
-skip-rests (HalfPrepared c) id p = absurd p
-skip-rests (Ready c) id p = (refl, rw p)
-skip-rests (Gathering c) id p = absurd p
-skip-rests (Together c) id p = absurd p
-skip-rests (Alone c) id p = absurd p
-skip-rests (HalfActivated c) id p = (refl, rw p)
-skip-rests Dead id p = absurd p
-
-gather-subject : (s : State) (id : ℕ) → Gatherable s id → subjectOf s ≡ subject.Of id
-gather-subject Idle id p = absurd p
-gather-subject (Preparing c) id p = absurd p
-gather-subject (HalfPrepared c) id p = absurd p
-gather-subject (Ready c) id p = rw p
-gather-subject (Gathering c) id p = rw p
-gather-subject (Together c) id p = absurd p
-gather-subject (Alone c) id p = absurd p
-gather-subject (HalfActivated c) id p = absurd p
-gather-subject Dead id p = absurd p
-
 -- those that gathered with may_reset are those that are held
 gather-kept : (b : Board) (s : State) (id : ℕ) (on held : CpuSet) → Gatherable s id → heldStand s on held ≡ true
     → keepersOf b s held ≡ pick (mayReset b id) held noneOf
@@ -157,28 +125,6 @@ gather-kept b (Together c) id on held p h = absurd p
 gather-kept b (Alone c) id on held p h = absurd p
 gather-kept b (HalfActivated c) id on held p h = absurd p
 gather-kept b Dead id on held p h = absurd p
-
-priming-is : (s : State) (id : ℕ) → isPriming s id ≡ true → subjectOf s ≡ subject.Of id
-priming-is Idle id p = absurd (not-both p refl)
-priming-is (Preparing c) id p = ap subject.Of (eqb-true c id p)
-priming-is (HalfPrepared c) id p = absurd (not-both p refl)
-priming-is (Ready c) id p = absurd (not-both p refl)
-priming-is (Gathering c) id p = absurd (not-both p refl)
-priming-is (Together c) id p = absurd (not-both p refl)
-priming-is (Alone c) id p = absurd (not-both p refl)
-priming-is (HalfActivated c) id p = absurd (not-both p refl)
-priming-is Dead id p = absurd (not-both p refl)
-
-activating-is : (s : State) (id : ℕ) → isActivating s id ≡ true → (subjectOf s ≡ subject.Of id) × (skipsRendezvous s ≡ isAlone s)
-activating-is Idle id p = absurd (not-both p refl)
-activating-is (Preparing c) id p = absurd (not-both p refl)
-activating-is (HalfPrepared c) id p = absurd (not-both p refl)
-activating-is (Ready c) id p = absurd (not-both p refl)
-activating-is (Gathering c) id p = absurd (not-both p refl)
-activating-is (Together c) id p = (ap subject.Of (eqb-true c id p), refl)
-activating-is (Alone c) id p = (ap subject.Of (eqb-true c id p), refl)
-activating-is (HalfActivated c) id p = absurd (not-both p refl)
-activating-is Dead id p = absurd (not-both p refl)
 
 -- what the state's component is, whatever the state
 subject-told : (b : Board) (pending : List Bool) (version : List ℕ) (s : State) (c : ℕ)
@@ -299,9 +245,9 @@ module _ (r : Record) (w : WellFormed r) (z : Sized r) where
       (λ j d. rw (keeps, gather-kept (r .board) (r .state) (call .x1) (r .on) (r .held) (g .state) (w .held)) (joined-others reset (r .held) (call .cpu) j d))
       (rw keeps (joined-entry reset (r .board .first) (r .board .last) (r .held) (call .cpu) (call .x3) (call .x4) (has-room (r .on) (call .cpu) (g .by .powered)) (g .entry))))
 
-  gather-kept-all : (e : Event) (a : Arrival) → Joins r e a false → WellFormed (joinedOf r (Gathering (a .component)) a)
+  gathering-kept : (e : Event) (a : Arrival) → Joins r e a false → WellFormed (joinedOf r (Gathering (a .component)) a)
   unfolding arrivalOf stateStands heldStand
-  gather-kept-all e a g =
+  gathering-kept e a g =
       let call = g .by .call in
       let some = sym (with-some (r .held) (call .cpu) (has-room (r .on) (call .cpu) (g .by .powered))) in
       let id = ap (λ (x : Arrival). x .component) (g .arrival) in
@@ -336,7 +282,7 @@ module _ (r : Record) (w : WellFormed r) (z : Sized r) where
   end-prime-kept : (e : Event) (p : Report) → EndsPrime r e p → WellFormed (settledOf r (afterPrime p))
   unfolding afterPrime stateStands
   end-prime-kept e p g =
-      let same = calm (p .component) (priming-is (r .state) (p .component) (g .running)) in
+      let same = calm (p .component) (priming-subject (r .state) (p .component) (g .running)) in
       pick-cases (λ (s : State). WellFormed (settledOf r s)) (eqb (p .code) 0) _ _ (λ t. settled-kept (Ready (p .component)) same refl)
       (λ t. pick-cases (λ (s : State). WellFormed (settledOf r s)) (eqb (p .code) 1) _ _
       (λ u. settled-kept (HalfPrepared (p .component)) same refl) (λ u. settled-kept Idle refl refl))
@@ -385,7 +331,7 @@ module _ (r : Record) (w : WellFormed r) (z : Sized r) where
   unfolding activateAllows
   again-optional e p g q =
       let c = numberedOf (r .board) (p .component) in
-      let is = activating-is (r .state) (p .component) (g .running) in
+      let is = activating-subject (r .state) (p .component) (g .running) in
       let alone : isAlone (r .state) ≡ true = sym (ap (activateAllows (isAlone (r .state)) (c .«may_reset»)) q) ∙ g .allowed in
       subject-optional c (skipsRendezvous (r .state)) _ _ (mine (p .component) (is .0)) (is .1 ∙ alone)
 
@@ -394,7 +340,7 @@ module _ (r : Record) (w : WellFormed r) (z : Sized r) where
   unfolding afterActivate stateStands
   ended-state e p g =
       let c = p .component in
-      let is = activating-is (r .state) c (g .running) in
+      let is = activating-subject (r .state) c (g .running) in
       pick-cases (λ (s : State). WellFormed (settledOf r s)) (eqb (p .code) 1) _ _
       (λ t. settled-kept (HalfActivated c)
       (subject-alone (numberedOf (r .board) c) (skipsRendezvous (r .state)) _ _ (mine c (is .0)) (again-optional e p g (eqb-true (p .code) 1 t))) refl)
@@ -506,7 +452,7 @@ performed r e (move.Refuse x) w z g = (w, z)
 performed r e (move.Return x) w z g = (w, z)
 performed r e move.NoteInfo w z g = noted r w z
 performed r e (move.StartPrime a) w z g = (prime-kept r w z e a g, joined-sized r _ a z)
-performed r e (move.Gather a) w z g = (gather-kept-all r w z e a g, joined-sized r _ a z)
+performed r e (move.Gather a) w z g = (gathering-kept r w z e a g, joined-sized r _ a z)
 performed r e (move.StartTogether a) w z g = (together-kept r w z e a g, joined-sized r _ a z)
 performed r e (move.StartAlone a) w z g = (skip-kept r w z e a g, joined-sized r _ a z)
 performed r e move.ToIdle w z g = (idle-kept r w z, settled-sized r Idle z)

@@ -1,4 +1,5 @@
 pub mod Laws
 pub mod Table
 pub mod Guards
+pub mod States
 pub mod Pinned
