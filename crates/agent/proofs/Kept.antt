@@ -37,10 +37,10 @@ use Rattle.rules.specs.declared.Image.{Image}
 use Rattle.rules.specs.Calls.{arrivalOf, entryRight}
 use Rattle.rules.specs.declared.Report.{Report}
 use Rattle.rules.specs.declared.Waking.{Waking}
-use Rattle.rules.specs.Reports.{activateAllows}
+use Rattle.rules.specs.Reports.{byReset, activateAllows}
 use Rattle.rules.proofs.Guards.{Gatherable, Loose, Primes, Skips, Joins, TurnsOff, TurnsOn, EndsPrime, EndsActivate, NotesImage, Facts, facts, decide-guard}
 use Rattle.rules.proofs.States.{prime-rests, skip-rests, gather-subject, priming-subject, activating-subject}
-use Rattle.agent.specs.Perform.{refusedOf, acceptedOf, informedOf, joinedOf, settledOf, poweredOf, afterPrime, afterActivate, isDone, forgottenOf, endedOf, withImageOf, performOf}
+use Rattle.agent.specs.Perform.{refusedOf, acceptedOf, informedOf, joinedOf, settledOf, poweredOf, afterPrime, afterActivate, isDone, imagedOf, forgottenOf, endedOf, performOf}
 use Rattle.agent.specs.Step.{stepOf, after}
 
 -- ---- the one that is held alone
@@ -347,30 +347,27 @@ module _ (r : Record) (w : WellFormed r) (z : Sized r) where
       (λ t. pick-cases (λ (s : State). WellFormed (settledOf r s)) (eqb (p .code) 2) _ _ (λ u. settled-kept (Ready c) (calm c (is .0)) refl)
       (λ u. pick-cases (λ (s : State). WellFormed (settledOf r s)) (eqb (p .code) 5) _ _ (λ v. settled-kept Dead refl refl) (λ v. settled-kept Idle refl refl)))
 
--- a done activation: its image is pending no more
-forgotten-kept : (r : Record) → WellFormed r → Sized r → subjectOf (r .state) ≡ subject.Nothing → (id : ℕ) → WellFormed (forgottenOf r id)
-unfolding forgottenOf imageStands stateStands
-forgotten-kept r w z none id = record {
+-- an image comes or goes: what has to be seen of it, and of the state
+imaged-kept : (r : Record) (id : ℕ) (now : Bool) (v : ℕ) → WellFormed r → Sized r → imageStands (isCapable (r .board) id) now v ≡ true
+    → stateStands (r .board) (set (r .pending) id now) (set (r .version) id v) (r .state) ≡ true → WellFormed (imagedOf r id now v)
+unfolding imagedOf
+imaged-kept r id now v w z here state = record {
   board = w .board;
   powered = w .powered;
-  images = images-put (r .board) (r .pending) (r .version) id false 0 (z .pending) (z .version) refl (w .images);
-  state = rw none;
+  images = images-put (r .board) (r .pending) (r .version) id now v (z .pending) (z .version) here (w .images);
+  state = state;
   held = w .held;
   entries = w .entries;
 }
 
-image-kept : (r : Record) (e : Event) (i : Image) → WellFormed r → Sized r → NotesImage r e i → WellFormed (withImageOf r i)
-unfolding withImageOf imageStands stateStands
-image-kept r e i w z g = record {
-  board = w .board;
-  powered = w .powered;
-  images = images-put (r .board) (r .pending) (r .version) (i .component) true (i .version) (z .pending) (z .version) (g .capable) (w .images);
-  state =
-      other-image (r .board) (r .pending) (r .version) (skipsRendezvous (r .state)) (subjectOf (r .state)) (i .component) true (i .version) (g .other)
-      (w .state);
-  held = w .held;
-  entries = w .entries;
-}
+image-kept : (r : Record) (e : Event) (i : Image) → WellFormed r → Sized r → NotesImage r e i → WellFormed (imagedOf r (i .component) true (i .version))
+unfolding imageStands stateStands
+image-kept r e i w z g =
+    imaged-kept r (i .component) true (i .version) w z (g .capable)
+    (other-image (r .board) (r .pending) (r .version) (skipsRendezvous (r .state)) (subjectOf (r .state)) (i .component) true (i .version) (g .other) (w .state))
+
+abbrev Keeps : Record → Type 0
+Keeps r = WellFormed r × Sized r
 
 -- ---- the lengths of the tables
 joined-sized : (r : Record) (s : State) (a : Arrival) → Sized r → Sized (joinedOf r s a)
@@ -386,71 +383,59 @@ settled-sized : (r : Record) (s : State) → Sized r → Sized (settledOf r s)
 unfolding settledOf
 settled-sized r s z = record { pending = z .pending; version = z .version; entry = refl; context = refl }
 
-forgotten-sized : (r : Record) (id : ℕ) → Sized r → Sized (forgottenOf r id)
-unfolding forgottenOf
-forgotten-sized r id z = record {
-  pending = length-set (r .pending) id false ∙ z .pending;
-  version = length-set (r .version) id 0 ∙ z .version;
+imaged-sized : (r : Record) (id : ℕ) (now : Bool) (v : ℕ) → Sized r → Sized (imagedOf r id now v)
+unfolding imagedOf
+imaged-sized r id now v z = record {
+  pending = length-set (r .pending) id now ∙ z .pending;
+  version = length-set (r .version) id v ∙ z .version;
   entry = z .entry;
   context = z .context;
 }
-
-image-sized : (r : Record) (i : Image) → Sized r → Sized (withImageOf r i)
-unfolding withImageOf
-image-sized r i z = record {
-  pending = length-set (r .pending) (i .component) true ∙ z .pending;
-  version = length-set (r .version) (i .component) (i .version) ∙ z .version;
-  entry = z .entry;
-  context = z .context;
-}
-
-ended-sized : (r : Record) (p : Report) → Sized r → Sized (endedOf r p)
-unfolding endedOf
-ended-sized r p z =
-    let next = settledOf r (afterActivate p) in
-    let sized = settled-sized r (afterActivate p) z in
-    pick-cases Sized (isDone (p .code)) (forgottenOf next (p .component)) next (λ d. forgotten-sized next (p .component) sized) (λ d. sized)
 
 -- ---- the end of an activation
 
 -- a done activation leaves the state idle
 done-idle : (p : Report) → isDone (p .code) ≡ true → subjectOf (afterActivate p) ≡ subject.Nothing
 unfolding isDone afterActivate
-done-idle p d = or-cases (eqb (p .code) 0) (eqb (p .code) 12) d (λ t. rw (eqb-true (p .code) 0 t)) (λ t. rw (eqb-true (p .code) 12 t))
+done-idle p d = or-cases (eqb (p .code) 0) (eqb (p .code) byReset) d (λ t. rw (eqb-true (p .code) 0 t)) (λ t. rw (eqb-true (p .code) byReset t))
 
 settled-subject : (r : Record) (p : Report) → isDone (p .code) ≡ true → subjectOf (settledOf r (afterActivate p) .state) ≡ subject.Nothing
 unfolding settledOf
 settled-subject r p d = done-idle p d
 
-ended-kept : (r : Record) (e : Event) (p : Report) → WellFormed r → Sized r → EndsActivate r e p → WellFormed (endedOf r p)
+noted : (r : Record) (now : Bool) → WellFormed r → Sized r → Keeps (informedOf r now)
+unfolding informedOf
+noted r now w z = (
+  record { board = w .board; powered = w .powered; images = w .images; state = w .state; held = w .held; entries = w .entries },
+  record { pending = z .pending; version = z .version; entry = z .entry; context = z .context },
+)
+
+-- a done activation: its image is pending no more
+forgotten-kept : (r : Record) → WellFormed r → Sized r → subjectOf (r .state) ≡ subject.Nothing → (id : ℕ) → Keeps (forgottenOf r id)
+unfolding imageStands stateStands
+forgotten-kept r w z none id =
+    noted (imagedOf r id false 0) false (imaged-kept r id false 0 w z refl (rw none)) (imaged-sized r id false 0 z)
+
+ended-kept : (r : Record) (e : Event) (p : Report) → WellFormed r → Sized r → EndsActivate r e p → Keeps (endedOf r p)
 unfolding endedOf
 ended-kept r e p w z g =
     let next = settledOf r (afterActivate p) in
     let kept = ended-state r w z e p g in
-    pick-cases WellFormed (isDone (p .code)) (forgottenOf next (p .component)) next
-    (λ d. forgotten-kept next kept (settled-sized r (afterActivate p) z) (settled-subject r p d) (p .component)) (λ d. kept)
+    let sized = settled-sized r (afterActivate p) z in
+    pick-cases Keeps (isDone (p .code)) (forgottenOf next (p .component)) next
+    (λ d. forgotten-kept next kept sized (settled-subject r p d) (p .component)) (λ d. (kept, sized))
 
 -- ---- every move
-
-abbrev Keeps : Record → Type 0
-Keeps r = WellFormed r × Sized r
 
 powered-sized : (r : Record) (on : CpuSet) → Sized r → Sized (poweredOf r on)
 unfolding poweredOf
 powered-sized r on z = record { pending = z .pending; version = z .version; entry = z .entry; context = z .context }
 
-noted : (r : Record) → WellFormed r → Sized r → Keeps (informedOf r)
-unfolding informedOf
-noted r w z = (
-  record { board = w .board; powered = w .powered; images = w .images; state = w .state; held = w .held; entries = w .entries },
-  record { pending = z .pending; version = z .version; entry = z .entry; context = z .context },
-)
-
 performed : (r : Record) (e : Event) (m : Move) → WellFormed r → Sized r → Facts r e m → Keeps (performOf r m .rec)
 unfolding refusedOf acceptedOf
 performed r e (move.Refuse x) w z g = (w, z)
 performed r e (move.Return x) w z g = (w, z)
-performed r e move.NoteInfo w z g = noted r w z
+performed r e move.NoteInfo w z g = noted r true w z
 performed r e (move.StartPrime a) w z g = (prime-kept r w z e a g, joined-sized r _ a z)
 performed r e (move.Gather a) w z g = (gathering-kept r w z e a g, joined-sized r _ a z)
 performed r e (move.StartTogether a) w z g = (together-kept r w z e a g, joined-sized r _ a z)
@@ -459,8 +444,8 @@ performed r e move.ToIdle w z g = (idle-kept r w z, settled-sized r Idle z)
 performed r e (move.PowerOff cpu) w z g = (off-kept r w z e cpu g, powered-sized r _ z)
 performed r e (move.PowerOn x) w z g = (on-kept r w z e x g, powered-sized r _ z)
 performed r e (move.EndPrime p) w z g = (end-prime-kept r w z e p g, settled-sized r (afterPrime p) z)
-performed r e (move.EndActivate p) w z g = (ended-kept r e p w z g, ended-sized r p z)
-performed r e (move.NoteImage i) w z g = (image-kept r e i w z g, image-sized r i z)
+performed r e (move.EndActivate p) w z g = ended-kept r e p w z g
+performed r e (move.NoteImage i) w z g = (image-kept r e i w z g, imaged-sized r (i .component) true (i .version) z)
 
 -- every step keeps a well-formed record well formed
 pub step-kept : (r : Record) (e : Event) (entries contexts : ℕ) → wellFormed r ≡ true → Sized r

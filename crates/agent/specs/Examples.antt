@@ -24,7 +24,7 @@ use Rattle.rules.specs.Reports.{primeAllows, activateAllows, primeReportOf, act
 use Rattle.rules.specs.Decide.{decideOf}
 use Rattle.rules.specs.declared.Event.{Event}
 use Rattle.rules.specs.declared.Event.the-variants as event
-use Rattle.agent.specs.Perform.{refusedOf, acceptedOf, informedOf, joinedOf, settledOf, poweredOf, reportedOf, afterPrime, afterActivate, isDone, forgottenOf, endedOf, releasedOf, withImageOf}
+use Rattle.agent.specs.Perform.{refusedOf, acceptedOf, informedOf, joinedOf, settledOf, poweredOf, reportedOf, afterPrime, afterActivate, imagedOf, isDone, endedOf, releasedOf}
 use Rattle.agent.specs.Step.{stepOf, after}
 use Rattle.agent.specs.declared.Caller.{Caller}
 use Rattle.agent.specs.declared.Caller.the-variants as caller
@@ -116,7 +116,7 @@ x1Of (Accepted a) = by (a .caller)
     by caller.Gone = 0
 
 unfoldable pub examples : List Bool
-unfolding allBelow firsts bit tally room hasOf noneOf onlyOf unionOf lessOf belowOf sameOf countOf numberedOf goodEntry withinLimit judgedOf writableOf boardStands freshOf poweredStand imageStands imagesStand subjectStands stateStands heldStand entryStands entriesStand workStands restStands wellFormed minusOf isCapable decodeOf returned featuresOf infoOf lowestFirst describedOf inventoryOf arrivalOf mayPrime tryPrimeOf trySameOf skipRight fieldsRight entryRight joinOf tryActivateOf cancelOf offFree onOf answerOf callOf primeAllows activateAllows primeReportOf activateReportOf imageOf decideOf refusedOf acceptedOf informedOf joinedOf settledOf poweredOf reportedOf afterPrime afterActivate isDone forgottenOf endedOf releasedOf withImageOf stepOf
+unfolding allBelow firsts bit tally room hasOf noneOf onlyOf unionOf lessOf belowOf sameOf countOf numberedOf goodEntry withinLimit judgedOf writableOf boardStands freshOf poweredStand imageStands imagesStand subjectStands stateStands heldStand entryStands entriesStand workStands restStands wellFormed minusOf isCapable decodeOf returned featuresOf infoOf lowestFirst describedOf inventoryOf arrivalOf mayPrime tryPrimeOf trySameOf skipRight fieldsRight entryRight joinOf tryActivateOf cancelOf offFree onOf answerOf callOf primeAllows activateAllows primeReportOf activateReportOf imageOf decideOf refusedOf acceptedOf informedOf joinedOf settledOf poweredOf reportedOf afterPrime afterActivate imagedOf isDone endedOf releasedOf stepOf
 examples =
     -- P unknown number 0xC40002E7: -1. P FEATURES of 0x84000002: -1
     says [] (call 0 0xC40002E7 0 0 0 0) (2 ^ 64 - 1)

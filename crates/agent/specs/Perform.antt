@@ -38,9 +38,9 @@ acceptedOf r who free = record { rec = r; outcome = Accepted (record { caller = 
 abbrev pub successOf : ℕ → Caller
 successOf x1 = caller.Returned (record { x0 = 0; x1 = x1; x2 = 0; x3 = 0 })
 
--- ---- GET_INFO "gives 0 and the component count and notes the call"
-unfoldable pub informedOf : Record → Record
-informedOf r = record {
+-- ---- GET_INFO is noted, or forgotten
+unfoldable pub informedOf : Record → Bool → Record
+informedOf r noted = record {
   board = r .board;
   pending = r .pending;
   version = r .version;
@@ -49,11 +49,30 @@ informedOf r = record {
   held = r .held;
   entry = r .entry;
   context = r .context;
-  informed = true;
+  informed = noted;
 }
 
+-- it "gives 0 and the component count and notes the call"
 abbrev pub noteInfoOf : Record → Stepped
-noteInfoOf r = acceptedOf (informedOf r) (successOf (r .board .components)) release.Nobody
+noteInfoOf r = acceptedOf (informedOf r true) (successOf (r .board .components)) release.Nobody
+
+-- ---- an image of component id is pending with this version, or none is and its version is 0
+unfoldable pub imagedOf : Record → ℕ → Bool → ℕ → Record
+imagedOf r id pending version = record {
+  board = r .board;
+  pending = set (r .pending) id pending;
+  version = set (r .version) id version;
+  state = r .state;
+  on = r .on;
+  held = r .held;
+  entry = r .entry;
+  context = r .context;
+  informed = r .informed;
+}
+
+-- "An accepted image makes its component pending with that version, in place of an older one"
+abbrev pub noteImageOf : Record → Image → Stepped
+noteImageOf r i = acceptedOf (imagedOf r (i .component) true (i .version)) caller.Nothing release.Nobody
 
 -- ---- "the caller is held"
 unfoldable pub joinedOf : Record → State → Arrival → Record
@@ -142,18 +161,8 @@ afterActivate p =
 unfoldable pub isDone : ℕ → Bool
 isDone code = eqb code 0 || eqb code byReset
 
-unfoldable pub forgottenOf : Record → ℕ → Record
-forgottenOf r id = record {
-  board = r .board;
-  pending = set (r .pending) id false;
-  version = set (r .version) id 0;
-  state = r .state;
-  on = r .on;
-  held = r .held;
-  entry = r .entry;
-  context = r .context;
-  informed = false;
-}
+abbrev pub forgottenOf : Record → ℕ → Record
+forgottenOf r id = informedOf (imagedOf r id false 0) false
 
 unfoldable pub endedOf : Record → Report → Record
 endedOf r p =
@@ -165,20 +174,6 @@ releasedOf held code = pick (eqb code byReset) (release.Resumed held) (reportedO
 
 abbrev pub endActivateOf : Record → Report → Stepped
 endActivateOf r p = acceptedOf (endedOf r p) caller.Nothing (releasedOf (r .held) (p .code))
-
--- ---- "An accepted image makes its component pending with that version, in place of an older one"
-unfoldable pub withImageOf : Record → Image → Record
-withImageOf r i = record {
-  board = r .board;
-  pending = set (r .pending) (i .component) true;
-  version = set (r .version) (i .component) (i .version);
-  state = r .state;
-  on = r .on;
-  held = r .held;
-  entry = r .entry;
-  context = r .context;
-  informed = r .informed;
-}
 
 abbrev pub performOf : Record → Move → Stepped
 performOf r (move.Refuse x) = refusedOf r x
@@ -193,4 +188,4 @@ performOf r (move.PowerOff cpu) = powerOffOf r cpu
 performOf r (move.PowerOn w) = powerOnOf r w
 performOf r (move.EndPrime p) = endPrimeOf r p
 performOf r (move.EndActivate p) = endActivateOf r p
-performOf r (move.NoteImage i) = acceptedOf (withImageOf r i) caller.Nothing release.Nobody
+performOf r (move.NoteImage i) = noteImageOf r i

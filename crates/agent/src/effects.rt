@@ -17,7 +17,7 @@ use rules::Report;
 use rules::Waking;
 ghost use mathlib.Core.Path.{_≡_};
 ghost use lib.ListN.{set};
-ghost use Rattle.agent.specs.Perform.{refusedOf, acceptedOf, successOf, informedOf, noteInfoOf, joinedOf, heldOf, settledOf, freedOf, cancelledOf, toIdleOf, poweredOf, powerOffOf, powerOnOf, reportedOf, afterPrime, endPrimeOf, afterActivate, forgottenOf, isDone, endedOf, releasedOf, endActivateOf, withImageOf, performOf};
+ghost use Rattle.agent.specs.Perform.{refusedOf, acceptedOf, successOf, informedOf, noteInfoOf, imagedOf, noteImageOf, joinedOf, heldOf, settledOf, freedOf, cancelledOf, toIdleOf, poweredOf, powerOffOf, powerOnOf, reportedOf, afterPrime, endPrimeOf, afterActivate, forgottenOf, isDone, endedOf, releasedOf, endActivateOf, performOf};
 
 fn refused(rec: Record, x: Refusal) -> Stepped
     ensures { λ r. ⌜ r ≡ refusedOf rec x ⌝ }
@@ -52,11 +52,11 @@ fn success(x1: u64) -> Caller
     })
 }
 
-fn informed(rec: Record) -> Record
-    ensures { λ r. ⌜ r ≡ informedOf rec ⌝ }
+fn informed(rec: Record, noted: bool) -> Record
+    ensures { λ r. ⌜ r ≡ informedOf rec noted ⌝ }
 {
     Record {
-        informed: true,
+        informed: noted,
         ..rec
     }
 }
@@ -65,7 +65,29 @@ fn note_info(rec: Record) -> Stepped
     ensures { λ r. ⌜ r ≡ noteInfoOf rec ⌝ }
 {
     let count = rec.board.components;
-    accepted(informed(rec), success(count), Release::Nobody)
+    accepted(informed(rec, true), success(count), Release::Nobody)
+}
+
+// An image of component id is pending with this version, or none is.
+fn imaged(rec: Record, id: u64, pending: bool, version: u32) -> Record
+    ensures { λ r. ⌜ r ≡ imagedOf rec id pending version ⌝ }
+{
+    let mut next = rec;
+    if id < board::MOST_COMPONENTS as u64 {
+        next.pending[id as usize] = pending;
+        next.version[id as usize] = version;
+    }
+    next
+}
+
+fn note_image(rec: Record, i: Image) -> Stepped
+    ensures { λ r. ⌜ r ≡ noteImageOf rec i ⌝ }
+{
+    accepted(
+        imaged(rec, i.component, true, i.version),
+        Caller::Nothing,
+        Release::Nobody,
+    )
 }
 
 // A table of CPUs with one place written.
@@ -226,13 +248,7 @@ fn after_activate(p: Report) -> State
 fn forgotten(rec: Record, id: u64) -> Record
     ensures { λ r. ⌜ r ≡ forgottenOf rec id ⌝ }
 {
-    let mut next = rec;
-    if id < board::MOST_COMPONENTS as u64 {
-        next.pending[id as usize] = false;
-        next.version[id as usize] = 0;
-    }
-    next.informed = false;
-    next
+    informed(imaged(rec, id, false, 0), false)
 }
 
 fn is_done(code: u64) -> bool
@@ -273,19 +289,6 @@ fn end_activate(rec: Record, p: Report) -> Stepped
     accepted(ended(rec, p), Caller::Nothing, released(held, p.code))
 }
 
-// The image is pending with its version, in place of an older one.
-fn with_image(rec: Record, i: Image) -> Record
-    ensures { λ r. ⌜ r ≡ withImageOf rec i ⌝ }
-{
-    let mut next = rec;
-    let id = i.component;
-    if id < board::MOST_COMPONENTS as u64 {
-        next.pending[id as usize] = true;
-        next.version[id as usize] = i.version;
-    }
-    next
-}
-
 // The next record and the answer of a move.
 pub(crate) fn perform(rec: Record, m: Move) -> Stepped
     ensures { λ r. ⌜ r ≡ performOf rec m ⌝ }
@@ -308,6 +311,6 @@ pub(crate) fn perform(rec: Record, m: Move) -> Stepped
         Move::PowerOn(w) => power_on(rec, w),
         Move::EndPrime(p) => end_prime(rec, p),
         Move::EndActivate(p) => end_activate(rec, p),
-        Move::NoteImage(i) => accepted(with_image(rec, i), Caller::Nothing, Release::Nobody),
+        Move::NoteImage(i) => note_image(rec, i),
     }
 }

@@ -3,10 +3,11 @@ use Prim.Native.Nat.{ℕ, zero, suc, _+_, _<_, _≤_}
 use mathlib.Core.Path.{_≡_, refl, sym, ap, _∙_}
 use mathlib.Core.Bool.{Bool, true, false, _&&_, and-false}
 use mathlib.Core.List.{List, [], _∷_}
+use lib.Dec.{eqb}
 use native.Mathlib.Numerals.{add-one}
 use native.Mathlib.Omega.{arith}
 use native.Mathlib.Nat.{not-suc-le-zero, le-antisymm}
-use Rattle.basics.specs.Choice.{and-left, and-right}
+use Rattle.basics.specs.Choice.{pick, and-left, and-right}
 use Rattle.basics.specs.Order.{last-cases}
 
 unfoldable pub allBelow : ℕ → (ℕ → Bool) → Bool
@@ -52,6 +53,11 @@ pub all-same : (n : ℕ) (f g : ℕ → Bool) → ((i : ℕ) → i < n → f i �
 unfolding allBelow
 all-same zero f g h = refl
 all-same (suc n) f g h = rw (all-same n f g (λ i l. h i (omega arith)), h n (omega arith))
+
+-- n is one of these numbers
+abbrev pub oneOf : ℕ → List ℕ → Bool
+oneOf n [] = false
+oneOf n (k ∷ ks) = pick (eqb n k) true (oneOf n ks)
 
 -- every entry of a list of examples holds
 unfoldable pub allHold : List Bool → Bool

@@ -1,7 +1,7 @@
 -- What holds where a move is decided: one record of facts for each kind of move, proved once. Assumes nothing.
 use Prim.Native.Nat.{ℕ, _-_, _%_, _^_, _<_, _≤_}
 use mathlib.Core.Path.{_≡_, refl, sym, ap, subst, _∙_}
-use mathlib.Core.Bool.{Bool, true, false, not}
+use mathlib.Core.Bool.{Bool, true, false, not, _&&_}
 use native.Mathlib.Omega.{arith}
 use lib.Dec.{eqb, leb, ltb}
 use borrow.Author.Tests.{leb-false, ltb-false, eqb-true, eqb-false, not-true, not-false}
@@ -306,8 +306,7 @@ module _ (r : Record) (e : Event) (by : Called r e) where
   features-guard : Asks call function.Features → Guard r e (featuresOf (call .x1))
   unfolding featuresOf
   features-guard a =
-      pick-cases (Guard r e) (ltb (call .x1) versionNumber) _ _ (λ t. said _ _ a refl)
-      (λ t. pick-cases (Guard r e) (ltb cancelNumber (call .x1)) _ _ (λ u. said _ _ a refl) (λ u. said _ _ a refl))
+      pick-cases (Guard r e) (leb versionNumber (call .x1) && leb (call .x1) cancelNumber) _ _ (λ t. said _ _ a refl) (λ t. said _ _ a refl)
 
   info-guard : Asks call function.GetInfo → Guard r e (infoOf (call .x1))
   unfolding infoOf

@@ -51,7 +51,7 @@ noCaller = Refuse NotWellFormed
 
 -- ---- FEATURES: "0 if X1 is 0xC40002E0 to 0xC40002E6, else -1"
 unfoldable pub featuresOf : ℕ → Move
-featuresOf x1 = pick (ltb x1 versionNumber) (says 1) (pick (ltb cancelNumber x1) (says 1) (says 0))
+featuresOf x1 = pick (leb versionNumber x1 && leb x1 cancelNumber) (says 0) (says 1)
 
 -- ---- GET_INFO: "X1 = 0 gives 0 and the component count and notes the call; else -8"
 unfoldable pub infoOf : ℕ → Move

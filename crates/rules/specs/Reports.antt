@@ -1,8 +1,10 @@
 -- What reports and images call for (document 01, "Reports" and "Events and what they answer"). Assumes nothing.
 use Prim.Native.Nat.{ℕ}
-use mathlib.Core.Bool.{Bool, true, false, not, _&&_}
+use mathlib.Core.Bool.{Bool, false, not, _&&_}
+use mathlib.Core.List.{[], _∷_}
 use lib.Dec.{eqb}
 use Rattle.basics.specs.Choice.{pick}
+use Rattle.basics.specs.Every.{oneOf}
 use Rattle.board.specs.Description.{isCapable, mayReset}
 use Rattle.board_record.specs.Record.{isFor, isAlone}
 use Rattle.board_record.specs.declared.Record.{Record}
@@ -40,14 +42,7 @@ isActivating Dead id = false
 
 -- "Prime allows 0 .., 1 .., 3, 4, 6, 11 .."
 unfoldable pub primeAllows : ℕ → Bool
-primeAllows code =
-    pick (eqb code 0) true
-    (pick (eqb code 1) true
-    (pick (eqb code 3) true
-    (pick (eqb code 4) true
-    (pick (eqb code 6) true
-    (pick (eqb code 11) true
-    false)))))
+primeAllows code = oneOf code (0 ∷ 1 ∷ 3 ∷ 4 ∷ 6 ∷ 11 ∷ [])
 
 -- the code of "done by reset"
 abbrev pub byReset : ℕ
@@ -60,17 +55,9 @@ resumesOf alone reset = not alone && reset
 -- "Activate allows 0; 1 in alone only; 12 ..; 2, 3, 4, 5, 6, 9, 11"
 unfoldable pub activateAllows : Bool → Bool → ℕ → Bool
 activateAllows alone reset code =
-    pick (eqb code 0) true
-    (pick (eqb code 1) alone
-    (pick (eqb code 2) true
-    (pick (eqb code 3) true
-    (pick (eqb code 4) true
-    (pick (eqb code 5) true
-    (pick (eqb code 6) true
-    (pick (eqb code 9) true
-    (pick (eqb code 11) true
+    pick (eqb code 1) alone
     (pick (eqb code byReset) (resumesOf alone reset)
-    false)))))))))
+    (oneOf code (0 ∷ 2 ∷ 3 ∷ 4 ∷ 5 ∷ 6 ∷ 9 ∷ 11 ∷ [])))
 
 -- 5, 6: "no job of that kind running for that component; code not allowed for it"
 unfoldable pub primeReportOf : Record → Report → Move

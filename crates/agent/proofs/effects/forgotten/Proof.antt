@@ -1,35 +1,15 @@
-use mathlib.Core.Bool.{false}
-use mathlib.Core.Path.{_≡_, refl}
-use native.Mathlib.Omega.{arith}
-use lib.Seq.{set-out}
-use lib.ListN.{length}
-use Rattle.board.specs.Description.{mostComponents}
-use Rattle.agent.specs.Perform.{forgottenOf}
 use borrow.Author.Needs.{needs}
 use Rattle.agent.proofs.effects.forgotten.Statement.{statement}
 use Rattle.agent.proofs.effects.forgotten.Tie as tie
 
-element-write-next : tie.Need-element-write-next
-element-write-next c = search needs
+imaged-requires : tie.Need-imaged-requires
+imaged-requires c κs = search needs
 
-mul-next : tie.Need-mul-next
-mul-next c = search needs
-
-element-write-next-2 : tie.Need-element-write-next-2
-element-write-next-2 c = search needs
+informed-requires : tie.Need-informed-requires
+informed-requires c κs = search needs
 
 returns : tie.Need-returns
-unfolding forgottenOf
-returns c = refl
-
-returns-2 : tie.Need-returns-2
-unfolding forgottenOf
-returns-2 c =
-    let a = c .before .args in
-    let n : length (a .rec .pending) ≡ mostComponents = search needs in
-    let m : length (a .rec .version) ≡ mostComponents = search needs in
-    rw (set-out (a .rec .pending) (a .id) false (omega (arith, c .if1 .left)), set-out (a .rec .version) (a .id) 0 (omega (arith, c .if1 .left)))
+returns c = rw (c .informed .ensures, c .before .imaged .ensures)
 
 pub forgotten-spec : {M : Type 1} → statement M
-forgotten-spec =
-    tie.close (tie.spec element-write-next mul-next element-write-next-2 returns returns-2)
+forgotten-spec = tie.close (tie.spec imaged-requires informed-requires returns)

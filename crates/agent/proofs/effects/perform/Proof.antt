@@ -77,11 +77,8 @@ end-activate-requires c κs = search needs
 enum-known-m-11 : tie.Need-enum-known-m-11
 enum-known-m-11 c = search needs
 
-with-image-requires : tie.Need-with-image-requires
-with-image-requires c κs = search needs
-
-accepted-requires-2 : tie.Need-accepted-requires-2
-accepted-requires-2 c κs = search needs
+note-image-requires : tie.Need-note-image-requires
+note-image-requires c κs = search needs
 
 returns : tie.Need-returns
 returns c = rw (c .before .before .m .given .1) (c .refused .ensures)
@@ -120,7 +117,7 @@ returns-12 : tie.Need-returns-12
 returns-12 c = rw (c .before .before .m10 .given .1) (c .end-activate .ensures)
 
 returns-13 : tie.Need-returns-13
-returns-13 c = rw (c .before .before .before .m11 .given .1) (rw (c .before .with-image .ensures) at (c .accepted2 .ensures))
+returns-13 c = rw (c .before .before .m11 .given .1) (c .note-image .ensures)
 
 pub perform-spec : {M : Type 1} → statement M
 perform-spec =
@@ -151,8 +148,7 @@ perform-spec =
     enum-known-m-10
     end-activate-requires
     enum-known-m-11
-    with-image-requires
-    accepted-requires-2
+    note-image-requires
     returns
     returns-2
     returns-3

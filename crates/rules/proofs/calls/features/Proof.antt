@@ -1,5 +1,4 @@
-use borrow.Author.Tests.{le-ltb, lt-ltb}
-use Rattle.basics.specs.Choice.{no, yes}
+use borrow.Author.Tests.{le-leb, lt-leb}
 use Rattle.rules.specs.Calls.{featuresOf}
 use borrow.Author.Needs.{needs}
 use Rattle.rules.proofs.calls.features.Statement.{statement}
@@ -10,21 +9,21 @@ say-requires c κs = search needs
 
 returns : tie.Need-returns
 unfolding featuresOf
-returns c = yes _ (lt-ltb _ _ (c .before .if1 .taken)) (c .say .ensures)
+returns c = rw (lt-leb _ _ (c .before .if1 .taken)) (c .say .ensures)
 
 say-requires-2 : tie.Need-say-requires-2
 say-requires-2 c κs = search needs
 
 returns-2 : tie.Need-returns-2
 unfolding featuresOf
-returns-2 c = no _ (le-ltb _ _ (c .before .before .if1 .left)) (yes _ (lt-ltb _ _ (c .before .if2 .taken)) (c .say2 .ensures))
+returns-2 c = rw (le-leb _ _ (c .before .before .if1 .left), lt-leb _ _ (c .before .if2 .taken)) (c .say2 .ensures)
 
 say-requires-3 : tie.Need-say-requires-3
 say-requires-3 c κs = search needs
 
 returns-3 : tie.Need-returns-3
 unfolding featuresOf
-returns-3 c = no _ (le-ltb _ _ (c .before .before .if1 .left)) (no _ (le-ltb _ _ (c .before .if2 .left)) (c .say3 .ensures))
+returns-3 c = rw (le-leb _ _ (c .before .before .if1 .left), le-leb _ _ (c .before .if2 .left)) (c .say3 .ensures)
 
 pub features-spec : {M : Type 1} → statement M
 features-spec =
