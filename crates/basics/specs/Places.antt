@@ -90,6 +90,12 @@ module _ {A : Type 0} (f : ℕ → List A) where
   length-inTurn m (suc n) h =
       omega (arith, length-append (inTurn n f) (f n), length-inTurn m n (λ i l. h i (omega arith)), h n (omega arith), mul-suc m n)
 
+-- the first part, and the others
+pub inTurn-front : {A : Type 0} (n : ℕ) (f : ℕ → List A) → inTurn (suc n) f ≡ f 0 ++ inTurn n (λ i. f (suc i))
+unfolding inTurn
+inTurn-front zero f = sym (append-nil (f 0))
+inTurn-front (suc n) f = rw (inTurn-front n f, append-assoc)
+
 pub inTurn-same : {A : Type 0} (n : ℕ) (f g : ℕ → List A) → ((i : ℕ) → i < n → f i ≡ g i) → inTurn n f ≡ inTurn n g
 unfolding inTurn
 inTurn-same zero f g h = refl

@@ -1,15 +1,16 @@
 -- Reading what was written, and writing what was read, once for every layout. Assumes nothing.
-use Prim.Native.Nat.{ℕ, zero, suc, _+_, _-_, _*_, _/_, _%_, _^_, _≤_, _<_}
+use Prim.Native.Nat.{ℕ, zero, suc, _+_, _*_, _/_, _%_, _^_, _≤_, _<_}
 use mathlib.Core.Path.{_≡_, refl, sym, ap, _∙_}
 use mathlib.Core.List.{List, [], _∷_, _++_}
 use native.Mathlib.Nat.{add-zero, mul-assoc, add-assoc, div-div-eq-div-mul, mod-eq-of-lt, mul-suc, mul-le-mul-left, add-comm, add-mul-div-right, zero-add, suc-add, add-mul}
 use native.Mathlib.Omega.{arith}
-use lib.ListN.{length, take, drop, List·getD-append, take-append-drop}
-use lib.Seq.{getD-drop, drop-append-seam, length-take-le}
+use native.Mathlib.Numerals.{add-one}
+use lib.ListN.{length, getD, take, drop, replicate, List·getD-append, take-append-drop}
+use lib.Seq.{getD-drop, drop-append-seam, length-take-le, take-suc}
 use lib.Pow.{pow-add, mod-pow-add, high, low, pow-pos}
 use lib.Arith.{digits-lt}
 use Rattle.basics.specs.Order.{last-cases}
-use Rattle.basics.specs.Places.{firsts, firsts-front, firsts-same, inTurn, length-inTurn}
+use Rattle.basics.specs.Places.{firsts, firsts-front, firsts-same, inTurn, length-inTurn, inTurn-front}
 use Rattle.bitfield.specs.Bits.{AreBytes, bitAt, valueAt, bytes}
 use Rattle.bitfield.specs.Layout.{total, fields, fieldOf, join, Fit}
 use Rattle.bitfield.proofs.Laws.{value-join, value-byte, value-lt, length-bytes}
@@ -99,6 +100,13 @@ join-lt [] (v ∷ vs) f = absurd f
 join-lt (w ∷ ws) [] f = absurd f
 join-lt (w ∷ ws) (v ∷ vs) f = rw (pow-add 2 w (total ws)) (digits-lt (f .0) (join-lt ws vs (f .1)))
 
+-- values that each fit their width
+pub fit-each : (ws vs : List ℕ) → length vs ≡ length ws → ((k : ℕ) → k < length ws → getD vs k 0 < 2 ^ getD ws k 0) → Fit ws vs
+fit-each [] [] e h = tt
+fit-each [] (v ∷ vs) e h = absurd (omega arith)
+fit-each (w ∷ ws) [] e h = absurd (omega arith)
+fit-each (w ∷ ws) (v ∷ vs) e h = (h 0 (omega arith), fit-each ws vs (omega arith) (λ k l. h (suc k) (omega arith)))
+
 pub join-one : (w v : ℕ) → join (w ∷ []) (v ∷ []) ≡ v
 unfolding join
 join-one w v = omega arith
@@ -186,6 +194,13 @@ total-append : (ws us : List ℕ) → total (ws ++ us) ≡ total ws + total us
 total-append [] us = omega arith
 total-append (w ∷ ws) us = rw (total-append ws us, add-assoc)
 
+-- where the next field starts
+pub total-next : (ws : List ℕ) (k : ℕ) → k < length ws → total (take (k + 1) ws) ≡ total (take k ws) + getD ws k 0
+total-next ws k h = rw (add-one k, take-suc ws k 0 h, total-append (take k ws) (getD ws k 0 ∷ []), add-zero)
+
+pub total-within : (ws : List ℕ) (k : ℕ) → total (take k ws) ≤ total ws
+total-within ws k = omega (arith, ap total (take-append-drop k ws), total-append (take k ws) (drop k ws))
+
 -- the number of two layouts' values, one after the other
 pub join-append : (ws vs us xs : List ℕ) → Fit ws vs → join (ws ++ us) (vs ++ xs) ≡ join ws vs * 2 ^ total us + join us xs
 unfolding join
@@ -198,3 +213,16 @@ join-append (w ∷ ws) (v ∷ vs) us xs f =
 -- the bytes of two layouts' values, one after the other
 pub bytes-join : (m n : ℕ) (ws vs us xs : List ℕ) → 8 * n ≡ total us → Fit ws vs → Fit us xs → bytes (m + n) (join (ws ++ us) (vs ++ xs)) ≡ bytes m (join ws vs) ++ bytes n (join us xs)
 bytes-join m n ws vs us xs e g f = rw (join-append ws vs us xs g, ← e) (bytes-append m n (join ws vs) (join us xs) (rw e (join-lt us xs f)))
+
+total-words : (n : ℕ) → total (replicate n 64) ≡ 8 * (8 * n)
+total-words zero = refl
+total-words (suc n) = omega (arith, total-words n)
+
+-- words side by side, eight bytes each
+pub bytes-words : (n : ℕ) (vs : List ℕ) → Fit (replicate n 64) vs → bytes (8 * n) (join (replicate n 64) vs) ≡ inTurn n (λ i. bytes 8 (getD vs i 0))
+unfolding bytes inTurn
+bytes-words zero vs f = refl
+bytes-words (suc n) [] f = absurd f
+bytes-words (suc n) (v ∷ vs) f =
+    let e : 8 * suc n ≡ 8 + 8 * n = omega arith in
+    rw (e, bytes-join 8 (8 * n) (64 ∷ []) (v ∷ []) (replicate n 64) vs (sym (total-words n)) (f .0, tt) (f .1), join-one 64 v, bytes-words n vs (f .1), inTurn-front n (λ i. bytes 8 (getD (v ∷ vs) i 0)))
