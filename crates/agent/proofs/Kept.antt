@@ -11,6 +11,7 @@ use borrow.Author.Tests.{lt-ltb, le-leb, eqb-true, eqb-false}
 use Rattle.basics.specs.Choice.{pick, pick-cases, not-both, and-left, and-right, or-cases}
 use Rattle.basics.specs.Every.{all-at, all-of}
 use Rattle.basics.specs.Order.{eq-cases}
+use Rattle.codes.specs.Codes.{byReset}
 use Rattle.cpuset.specs.Set.{Set, room, hasOf, noneOf, belowOf, withOf, withoutOf, withinOf, countOf}
 use Rattle.cpuset.specs.Laws.{has-room, has-none, has-with, has-without, has-below, set-below, set-without, set-within, same-is, same-eq, within-has, within-of, count-none, count-with, with-self, with-other, without-other, with-some, without-some, with-within}
 use Rattle.cpuset.specs.declared.CpuSet.{CpuSet}
@@ -37,7 +38,7 @@ use Rattle.rules.specs.declared.Image.{Image}
 use Rattle.rules.specs.Calls.{arrivalOf, entryRight}
 use Rattle.rules.specs.declared.Report.{Report}
 use Rattle.rules.specs.declared.Waking.{Waking}
-use Rattle.rules.specs.Reports.{byReset, activateAllows}
+use Rattle.rules.specs.Reports.{activateAllows}
 use Rattle.rules.proofs.Guards.{Gatherable, Loose, Primes, Skips, Joins, TurnsOff, TurnsOn, EndsPrime, EndsActivate, NotesImage, Facts, facts, decide-guard}
 use Rattle.rules.proofs.States.{prime-rests, skip-rests, gather-subject, priming-subject, activating-subject}
 use Rattle.agent.specs.Perform.{refusedOf, acceptedOf, informedOf, joinedOf, settledOf, poweredOf, afterPrime, afterActivate, isDone, imagedOf, forgottenOf, endedOf, performOf}

@@ -8,6 +8,8 @@ use lib.Dec.{eqb}
 use lib.ListN.{replicate}
 use Rattle.basics.specs.Every.{allBelow, allHold}
 use Rattle.basics.specs.Places.{firsts}
+use Rattle.codes.specs.Numbers.{versionNumber, featuresNumber, infoNumber, inventoryNumber, primeNumber, activateNumber, cancelNumber, offNumber, onNumber}
+use Rattle.codes.specs.Codes.{isPrimeCode, isActivateCode}
 use Rattle.cpuset.specs.Bit.{bit}
 use Rattle.cpuset.specs.Tally.{tally}
 use Rattle.cpuset.specs.Set.{room, hasOf, noneOf, onlyOf, unionOf, lessOf, belowOf, sameOf, countOf}
@@ -18,9 +20,9 @@ use Rattle.board.specs.declared.Component.{Component}
 use Rattle.board_record.specs.Record.{freshOf}
 use Rattle.board_record.specs.WellFormed.{poweredStand, imageStands, imagesStand, subjectStands, stateStands, heldStand, entryStands, entriesStand, workStands, restStands, wellFormed}
 use Rattle.rules.specs.Statuses.{minusOf, numberOf}
-use Rattle.rules.specs.Numbers.{versionNumber, featuresNumber, infoNumber, inventoryNumber, primeNumber, activateNumber, cancelNumber, offNumber, onNumber, decodeOf}
+use Rattle.rules.specs.Numbers.{decodeOf}
 use Rattle.rules.specs.Calls.{returned, featuresOf, infoOf, lowestFirst, describedOf, inventoryOf, arrivalOf, mayPrime, tryPrimeOf, trySameOf, skipRight, fieldsRight, entryRight, joinOf, tryActivateOf, cancelOf, offFree, onOf, answerOf, callOf}
-use Rattle.rules.specs.Reports.{primeAllows, activateAllows, primeReportOf, activateReportOf, imageOf}
+use Rattle.rules.specs.Reports.{activateAllows, primeReportOf, activateReportOf, imageOf}
 use Rattle.rules.specs.Decide.{decideOf}
 use Rattle.rules.specs.declared.Event.{Event}
 use Rattle.rules.specs.declared.Event.the-variants as event
@@ -116,7 +118,7 @@ x1Of (Accepted a) = by (a .caller)
     by caller.Gone = 0
 
 unfoldable pub examples : List Bool
-unfolding allBelow firsts bit tally room hasOf noneOf onlyOf unionOf lessOf belowOf sameOf countOf numberedOf goodEntry withinLimit judgedOf writableOf boardStands freshOf poweredStand imageStands imagesStand subjectStands stateStands heldStand entryStands entriesStand workStands restStands wellFormed minusOf isCapable decodeOf returned featuresOf infoOf lowestFirst describedOf inventoryOf arrivalOf mayPrime tryPrimeOf trySameOf skipRight fieldsRight entryRight joinOf tryActivateOf cancelOf offFree onOf answerOf callOf primeAllows activateAllows primeReportOf activateReportOf imageOf decideOf refusedOf acceptedOf informedOf joinedOf settledOf poweredOf reportedOf afterPrime afterActivate imagedOf isDone endedOf releasedOf stepOf
+unfolding allBelow firsts bit tally room hasOf noneOf onlyOf unionOf lessOf belowOf sameOf countOf numberedOf goodEntry withinLimit judgedOf writableOf boardStands freshOf poweredStand imageStands imagesStand subjectStands stateStands heldStand entryStands entriesStand workStands restStands wellFormed minusOf isCapable decodeOf returned featuresOf infoOf lowestFirst describedOf inventoryOf arrivalOf mayPrime tryPrimeOf trySameOf skipRight fieldsRight entryRight joinOf tryActivateOf cancelOf offFree onOf answerOf callOf isPrimeCode isActivateCode activateAllows primeReportOf activateReportOf imageOf decideOf refusedOf acceptedOf informedOf joinedOf settledOf poweredOf reportedOf afterPrime afterActivate imagedOf isDone endedOf releasedOf stepOf
 examples =
     -- P unknown number 0xC40002E7: -1. P FEATURES of 0x84000002: -1
     says [] (call 0 0xC40002E7 0 0 0 0) (2 ^ 64 - 1)

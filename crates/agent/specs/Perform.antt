@@ -4,6 +4,7 @@ use mathlib.Core.Bool.{Bool, true, false, _||_}
 use lib.Dec.{eqb}
 use lib.ListN.{set, replicate}
 use Rattle.basics.specs.Choice.{pick}
+use Rattle.codes.specs.Codes.{byReset}
 use Rattle.cpuset.specs.Set.{noneOf, onlyOf, withOf, withoutOf}
 use Rattle.cpuset.specs.declared.CpuSet.{CpuSet}
 use Rattle.board.specs.Description.{mostCpus}
@@ -12,7 +13,6 @@ use Rattle.board_record.specs.declared.Record.{Record}
 use Rattle.board_record.specs.declared.State.{State}
 use Rattle.board_record.specs.declared.State.the-variants.{Idle, Preparing, HalfPrepared, Ready, Gathering, Together, Alone, HalfActivated, Dead}
 use Rattle.rules.specs.Statuses.{minusOf}
-use Rattle.rules.specs.Reports.{byReset}
 use Rattle.rules.specs.declared.Arrival.{Arrival}
 use Rattle.rules.specs.declared.Image.{Image}
 use Rattle.rules.specs.declared.Refusal.{Refusal}

@@ -257,7 +257,7 @@ fn is_done(code: u64) -> bool
     if code == 0 {
         true
     } else {
-        code == rules::BY_RESET
+        code == codes::BY_RESET
     }
 }
 
@@ -275,7 +275,7 @@ fn ended(rec: Record, p: Report) -> Record
 fn released(held: CpuSet, code: u64) -> Release
     ensures { λ r. ⌜ r ≡ releasedOf held code ⌝ }
 {
-    if code == rules::BY_RESET {
+    if code == codes::BY_RESET {
         Release::Resumed(held)
     } else {
         reported(held, code)

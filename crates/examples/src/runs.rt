@@ -100,7 +100,7 @@ fn image(c: u64, version: u32) -> Event {
 }
 
 fn prime(cpu: u64, c: u64) -> Event {
-    call(cpu, rules::PRIME, c, 0, 0)
+    call(cpu, codes::PRIME, c, 0, 0)
 }
 
 fn primed(c: u64) -> Event {
@@ -111,7 +111,7 @@ fn primed(c: u64) -> Event {
 }
 
 fn activate(cpu: u64, c: u64) -> Event {
-    call(cpu, rules::ACTIVATE, c, 0, ENTRY)
+    call(cpu, codes::ACTIVATE, c, 0, ENTRY)
 }
 
 fn activated(c: u64, code: u64) -> Event {
@@ -127,7 +127,7 @@ fn fresh() -> Record {
 
 // CPUs 0 and 2 are on.
 fn two_on() -> Record {
-    after(fresh(), call(0, rules::CPU_ON, 2, ENTRY, 0))
+    after(fresh(), call(0, codes::CPU_ON, 2, ENTRY, 0))
 }
 
 // Component c is prepared.
@@ -141,27 +141,27 @@ fn calls() {
         fresh(),
         call(0, 0xC400_02E7, 0, 0, 0),
     );
-    ask(b"VERSION", fresh(), call(0, rules::VERSION, 0, 0, 0));
+    ask(b"VERSION", fresh(), call(0, codes::VERSION, 0, 0, 0));
     ask(
         b"FEATURES of 0x84000002",
         fresh(),
-        call(0, rules::FEATURES, rules::CPU_OFF, 0, 0),
+        call(0, codes::FEATURES, codes::CPU_OFF, 0, 0),
     );
-    let informed = after(fresh(), call(0, rules::GET_INFO, 0, 0, 0));
+    let informed = after(fresh(), call(0, codes::GET_INFO, 0, 0, 0));
     ask(
         b"inventory of 0",
         informed,
-        call(0, rules::GET_INVENTORY, 0, 0, 0),
+        call(0, codes::GET_INVENTORY, 0, 0, 0),
     );
     ask(
         b"inventory of 99 before GET_INFO",
         fresh(),
-        call(0, rules::GET_INVENTORY, 99, 0, 0),
+        call(0, codes::GET_INVENTORY, 99, 0, 0),
     );
     ask(
         b"inventory of 99 after it",
         informed,
-        call(0, rules::GET_INVENTORY, 99, 0, 0),
+        call(0, codes::GET_INVENTORY, 99, 0, 0),
     );
 }
 
@@ -179,12 +179,12 @@ fn preparing() {
     ask(
         b"CANCEL of 99 in idle",
         fresh(),
-        call(0, rules::CANCEL, 99, 0, 0),
+        call(0, codes::CANCEL, 99, 0, 0),
     );
     ask(
         b"CANCEL of 99 in ready for 1",
         ready(fresh(), 1),
-        call(0, rules::CANCEL, 99, 0, 0),
+        call(0, codes::CANCEL, 99, 0, 0),
     );
 }
 
@@ -202,7 +202,7 @@ fn activating() {
     ask(
         b"CPU_ON of 3 in gathering",
         gathering,
-        call(2, rules::CPU_ON, 3, ENTRY, 0),
+        call(2, codes::CPU_ON, 3, ENTRY, 0),
     );
     ask(b"the second ACTIVATE", gathering, activate(2, 0));
     let together = after(gathering, activate(2, 0));

@@ -1,11 +1,13 @@
 -- What holds where a move is decided: one record of facts for each kind of move, proved once. Assumes nothing.
-use Prim.Native.Nat.{ℕ, _-_, _%_, _^_, _<_, _≤_}
+use Prim.Native.Nat.{ℕ, _-_, _^_, _<_, _≤_}
 use mathlib.Core.Path.{_≡_, refl, sym, ap, subst, _∙_}
 use mathlib.Core.Bool.{Bool, true, false, not, _&&_}
 use native.Mathlib.Omega.{arith}
 use lib.Dec.{eqb, leb, ltb}
 use borrow.Author.Tests.{leb-false, ltb-false, eqb-true, eqb-false, not-true, not-false}
 use Rattle.basics.specs.Choice.{pick, pick-cases, not-both, refuted, and-left, and-right}
+use Rattle.codes.specs.Numbers.{versionNumber, cancelNumber, functionNumber}
+use Rattle.codes.specs.Codes.{isPrimeCode}
 use Rattle.cpuset.specs.Set.{hasOf, onlyOf, withOf, sameOf}
 use Rattle.cpuset.specs.Laws.{same-is}
 use Rattle.cpuset.specs.declared.CpuSet.{CpuSet}
@@ -19,10 +21,10 @@ use Rattle.board_record.specs.declared.State.{State}
 use Rattle.board_record.specs.declared.State.the-variants.{Idle, Preparing, HalfPrepared, Ready, Gathering, Together, Alone, HalfActivated, Dead}
 use Rattle.board_record.specs.declared.Subject.the-variants as subject
 use Rattle.rules.specs.Statuses.{minusOf, numberOf}
-use Rattle.rules.specs.Numbers.{versionNumber, cancelNumber, decodeOf}
+use Rattle.rules.specs.Numbers.{decodeOf}
 use Rattle.rules.specs.Table.{ruleOf}
 use Rattle.rules.specs.Calls.{returned, says, noCaller, featuresOf, infoOf, inventoryOf, arrivalOf, mayPrime, tryPrimeOf, trySameOf, primeBy, skips, skipRight, fieldsRight, entryRight, joinOf, tryActivateOf, activateBy, isOther, cancelBy, cancelOf, offFree, offBy, wakeBy, onOf, functionOf, answerBy, answerOf, callOf}
-use Rattle.rules.specs.Reports.{isPriming, isActivating, primeAllows, activateAllows, primeReportOf, activateReportOf, imageOf}
+use Rattle.rules.specs.Reports.{isPriming, isActivating, activateAllows, primeReportOf, activateReportOf, imageOf}
 use Rattle.rules.specs.Decide.{eventOf, decideOf}
 use Rattle.rules.specs.declared.Arrival.{Arrival}
 use Rattle.rules.specs.declared.Call.{Call}
@@ -57,7 +59,7 @@ pub record Called (r : Record) (e : Event) : Type 0 where
 
 -- which function it asks for
 abbrev pub Asks : Call → Function → Type 0
-Asks call f = decodeOf (call .x0 % 2 ^ 32) ≡ Known f
+Asks call f = decodeOf (functionNumber (call .x0)) ≡ Known f
 
 -- the record stays; a CANCEL that returned 0 found nothing to end
 pub record Returns (r : Record) (e : Event) (x : Registers) : Type 0 where
@@ -175,7 +177,7 @@ pub record TurnsOn (r : Record) (e : Event) (w : Waking) : Type 0 where
 pub record EndsPrime (r : Record) (e : Event) (p : Report) : Type 0 where
   pub event : e ≡ event.Prime p
   pub running : isPriming (r .state) (p .component) ≡ true
-  pub allowed : primeAllows (p .code) ≡ true
+  pub allowed : isPrimeCode (p .code) ≡ true
 
 pub record EndsActivate (r : Record) (e : Event) (p : Report) : Type 0 where
   pub event : e ≡ event.Activate p
@@ -296,10 +298,10 @@ module _ (r : Record) (e : Event) (by : Called r e) where
       not-both (ap (λ (s : CpuSet). hasOf s (call .cpu)) (same-is (r .held) (r .on) all) ∙ by .powered) (by .free)
 
   -- it returns, and was no CANCEL
-  plain : (d : Decoded) (x : Registers) → decodeOf (call .x0 % 2 ^ 32) ≡ d → asksCancel d ≡ false → Guard r e (Return x)
+  plain : (d : Decoded) (x : Registers) → decodeOf (functionNumber (call .x0)) ≡ d → asksCancel d ≡ false → Guard r e (Return x)
   plain d x a n = made r e (Return x) (record { by = by; cancelled = λ c z. absurd (not-both (ap asksCancel (sym a ∙ c)) n) })
 
-  said : (d : Decoded) (x0 : ℕ) → decodeOf (call .x0 % 2 ^ 32) ≡ d → asksCancel d ≡ false → Guard r e (returned x0)
+  said : (d : Decoded) (x0 : ℕ) → decodeOf (functionNumber (call .x0)) ≡ d → asksCancel d ≡ false → Guard r e (returned x0)
   unfolding returned
   said d x0 a n = plain d (record { x0 = x0; x1 = 0; x2 = 0; x3 = 0 }) a n
 
@@ -512,7 +514,7 @@ module _ (r : Record) (e : Event) (by : Called r e) where
   function-guard function.CpuOff a = off-guard a (r .state) refl
   function-guard function.CpuOn a = on-guard a
 
-  answer-guard : (d : Decoded) → decodeOf (call .x0 % 2 ^ 32) ≡ d → Guard r e (answerBy d r call)
+  answer-guard : (d : Decoded) → decodeOf (functionNumber (call .x0)) ≡ d → Guard r e (answerBy d r call)
   answer-guard (Known f) a = function-guard f a
   answer-guard Unknown a = said _ _ a refl
 
@@ -533,7 +535,7 @@ module _ (r : Record) where
   prime-report-guard p =
       let e = event.Prime p in
       pick-cases (Guard r e) (isPriming (r .state) (p .component)) _ _
-      (λ t. pick-cases (Guard r e) (primeAllows (p .code)) _ _
+      (λ t. pick-cases (Guard r e) (isPrimeCode (p .code)) _ _
       (λ u. made r e (EndPrime p) (record { event = refl; running = t; allowed = u })) (λ u. other r e _ (λ q. omega arith)))
       (λ t. other r e _ (λ q. omega arith))
 

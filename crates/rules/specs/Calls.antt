@@ -1,10 +1,11 @@
 -- What each call calls for (document 01, "Calls"). Assumes nothing.
-use Prim.Native.Nat.{ℕ, zero, suc, _+_, _*_, _%_, _^_}
+use Prim.Native.Nat.{ℕ, zero, suc, _+_, _*_}
 use mathlib.Core.Bool.{Bool, true, false, not, _&&_}
 use mathlib.Core.List.{List}
 use lib.Dec.{eqb, leb, ltb}
 use lib.ListN.{getD}
 use Rattle.basics.specs.Choice.{pick}
+use Rattle.codes.specs.Numbers.{versionNumber, cancelNumber, functionNumber}
 use Rattle.cpuset.specs.Set.{hasOf, onlyOf, withOf, sameOf}
 use Rattle.board.specs.Description.{numberedOf, isCapable, mayReset, goodEntry}
 use Rattle.board.specs.Packed.{digitOf}
@@ -16,7 +17,7 @@ use Rattle.board_record.specs.declared.State.{State}
 use Rattle.board_record.specs.declared.Subject.{Subject}
 use Rattle.board_record.specs.declared.Subject.the-variants as subject
 use Rattle.rules.specs.Statuses.{minusOf}
-use Rattle.rules.specs.Numbers.{versionNumber, cancelNumber, decodeOf}
+use Rattle.rules.specs.Numbers.{decodeOf}
 use Rattle.rules.specs.Table.{ruleOf}
 use Rattle.rules.specs.declared.Call.{Call}
 use Rattle.rules.specs.declared.Registers.{Registers}
@@ -224,7 +225,7 @@ answerBy (Known f) r call = functionOf r call f
 answerBy Unknown r call = says 1
 
 unfoldable pub answerOf : Record → Call → Move
-answerOf r call = answerBy (decodeOf (call .x0 % 2 ^ 32)) r call
+answerOf r call = answerBy (decodeOf (functionNumber (call .x0))) r call
 
 -- 2, 3, 4: "no such CPU; CPU off; CPU held"
 unfoldable pub callOf : Record → Call → Move

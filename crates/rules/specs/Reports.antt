@@ -1,10 +1,9 @@
 -- What reports and images call for (document 01, "Reports" and "Events and what they answer"). Assumes nothing.
 use Prim.Native.Nat.{ℕ}
 use mathlib.Core.Bool.{Bool, false, not, _&&_}
-use mathlib.Core.List.{[], _∷_}
 use lib.Dec.{eqb}
 use Rattle.basics.specs.Choice.{pick}
-use Rattle.basics.specs.Every.{oneOf}
+use Rattle.codes.specs.Codes.{byReset, isPrimeCode, isActivateCode}
 use Rattle.board.specs.Description.{isCapable, mayReset}
 use Rattle.board_record.specs.Record.{isFor, isAlone}
 use Rattle.board_record.specs.declared.Record.{Record}
@@ -40,14 +39,6 @@ isActivating (Alone c) id = eqb c id
 isActivating (HalfActivated c) id = false
 isActivating Dead id = false
 
--- "Prime allows 0 .., 1 .., 3, 4, 6, 11 .."
-unfoldable pub primeAllows : ℕ → Bool
-primeAllows code = oneOf code (0 ∷ 1 ∷ 3 ∷ 4 ∷ 6 ∷ 11 ∷ [])
-
--- the code of "done by reset"
-abbrev pub byReset : ℕ
-byReset = 12
-
 -- "12 in together with may_reset only": an activate job that is not in alone is in together
 abbrev pub resumesOf : Bool → Bool → Bool
 resumesOf alone reset = not alone && reset
@@ -57,13 +48,13 @@ unfoldable pub activateAllows : Bool → Bool → ℕ → Bool
 activateAllows alone reset code =
     pick (eqb code 1) alone
     (pick (eqb code byReset) (resumesOf alone reset)
-    (oneOf code (0 ∷ 2 ∷ 3 ∷ 4 ∷ 5 ∷ 6 ∷ 9 ∷ 11 ∷ [])))
+    (isActivateCode code))
 
 -- 5, 6: "no job of that kind running for that component; code not allowed for it"
 unfoldable pub primeReportOf : Record → Report → Move
 primeReportOf r p =
     pick (isPriming (r .state) (p .component))
-    (pick (primeAllows (p .code)) (EndPrime p)
+    (pick (isPrimeCode (p .code)) (EndPrime p)
     (Refuse CodeNotAllowed))
     (Refuse NoSuchJob)
 

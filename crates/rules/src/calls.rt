@@ -16,6 +16,8 @@ use board::Component;
 use board_record::Record;
 use board_record::State;
 use board_record::Subject;
+use codes::CANCEL;
+use codes::VERSION;
 ghost use mathlib.Core.Path.{_≡_};
 ghost use Prim.Native.Nat.{_+_, _≤_};
 ghost use Rattle.board.specs.Description.{uuidBytes};
@@ -51,10 +53,10 @@ fn no_caller() -> Move
 fn features(x1: u64) -> Move
     ensures { λ r. ⌜ r ≡ featuresOf x1 ⌝ }
 {
-    if x1 < crate::VERSION {
+    if x1 < VERSION {
         return say(1);
     }
-    if x1 > crate::CANCEL {
+    if x1 > CANCEL {
         return say(1);
     }
     say(0)

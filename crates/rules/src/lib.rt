@@ -9,28 +9,6 @@ ghost use Rattle.rules.specs.Statuses.{minusOf, numberOf};
 ghost use Rattle.rules.specs.Decide.{decideOf};
 use board_record::Record;
 
-// The function numbers: LFA's own are VERSION to CANCEL, the power calls are PSCI's.
-pub const VERSION: u64 = 0xC400_02E0;
-
-pub const FEATURES: u64 = 0xC400_02E1;
-
-pub const GET_INFO: u64 = 0xC400_02E2;
-
-pub const GET_INVENTORY: u64 = 0xC400_02E3;
-
-pub const PRIME: u64 = 0xC400_02E4;
-
-pub const ACTIVATE: u64 = 0xC400_02E5;
-
-pub const CANCEL: u64 = 0xC400_02E6;
-
-pub const CPU_OFF: u64 = 0x8400_0002;
-
-pub const CPU_ON: u64 = 0xC400_0003;
-
-// The code of an activation that is done by reset.
-pub const BY_RESET: u64 = 12;
-
 // A call: which CPU makes it, and its registers.
 pub struct Call {
     pub cpu: u64,

@@ -1,15 +1,15 @@
 // The function that a caller asks for.
-use crate::ACTIVATE;
-use crate::CANCEL;
-use crate::CPU_OFF;
-use crate::CPU_ON;
-use crate::FEATURES;
-use crate::GET_INFO;
-use crate::GET_INVENTORY;
-use crate::PRIME;
-use crate::VERSION;
+use codes::ACTIVATE;
+use codes::CANCEL;
+use codes::CPU_OFF;
+use codes::CPU_ON;
+use codes::FEATURES;
+use codes::GET_INFO;
+use codes::GET_INVENTORY;
+use codes::PRIME;
+use codes::VERSION;
 ghost use mathlib.Core.Path.{_≡_};
-ghost use Prim.Native.Nat.{_%_, _^_};
+ghost use Rattle.codes.specs.Numbers.{functionNumber};
 ghost use Rattle.rules.specs.Numbers.{decodeOf};
 
 // A function that a caller can ask for.
@@ -32,9 +32,9 @@ pub enum Decoded {
 
 // The function that the low 32 bits of X0 name.
 pub(crate) fn decode(x0: u64) -> Decoded
-    ensures { λ r. ⌜ r ≡ decodeOf (x0 % 2 ^ 32) ⌝ }
+    ensures { λ r. ⌜ r ≡ decodeOf (functionNumber x0) ⌝ }
 {
-    match x0 % 0x1_0000_0000 {
+    match codes::function_number(x0) {
         VERSION => Decoded::Known(Function::Version),
         FEATURES => Decoded::Known(Function::Features),
         GET_INFO => Decoded::Known(Function::GetInfo),

@@ -1,13 +1,13 @@
 // The two reports, and images.
-use crate::BY_RESET;
 use crate::Image;
 use crate::Move;
 use crate::Refusal;
 use crate::Report;
 use board_record::Record;
 use board_record::State;
+use codes::BY_RESET;
 ghost use mathlib.Core.Path.{_≡_};
-ghost use Rattle.rules.specs.Reports.{isPriming, isActivating, primeAllows, resumesOf, activateAllows, primeReportOf, activateReportOf, imageOf};
+ghost use Rattle.rules.specs.Reports.{isPriming, isActivating, resumesOf, activateAllows, primeReportOf, activateReportOf, imageOf};
 
 // A prime job is running for component id.
 fn is_priming(s: State, id: u64) -> bool
@@ -43,20 +43,6 @@ fn is_activating(s: State, id: u64) -> bool
     }
 }
 
-fn prime_allows(code: u64) -> bool
-    ensures { λ r. ⌜ r ≡ primeAllows code ⌝ }
-{
-    match code {
-        0 => true,
-        1 => true,
-        3 => true,
-        4 => true,
-        6 => true,
-        11 => true,
-        _ => false,
-    }
-}
-
 // In together with may_reset.
 fn resumes(alone: bool, reset: bool) -> bool
     ensures { λ r. ⌜ r ≡ resumesOf alone reset ⌝ }
@@ -68,17 +54,9 @@ fn activate_allows(alone: bool, reset: bool, code: u64) -> bool
     ensures { λ r. ⌜ r ≡ activateAllows alone reset code ⌝ }
 {
     match code {
-        0 => true,
         1 => alone,
-        2 => true,
-        3 => true,
-        4 => true,
-        5 => true,
-        6 => true,
-        9 => true,
-        11 => true,
         BY_RESET => resumes(alone, reset),
-        _ => false,
+        _ => codes::is_activate_code(code),
     }
 }
 
@@ -87,7 +65,7 @@ pub(crate) fn prime(rec: Record, report: Report) -> Move
 {
     let s = rec.state;
     if is_priming(s, report.component) {
-        if prime_allows(report.code) {
+        if codes::is_prime_code(report.code) {
             return Move::EndPrime(report);
         }
         return Move::Refuse(Refusal::CodeNotAllowed);
