@@ -1,4 +1,5 @@
 // runs document 01's bench examples and writes what each gives
+mod logs;
 mod runs;
 
 use board::Board;
@@ -113,4 +114,5 @@ fn main() {
     reading(&buf, 59);
     reading(&buf, 1);
     runs::all();
+    logs::all();
 }
