@@ -4,7 +4,7 @@ use crate::number;
 use crate::text;
 use log_record::LogRecord;
 use log_record::RECORD_BYTES;
-use log_record::Written;
+use logbook::Answer;
 use logbook::Checked;
 use logbook::MOST_RECORDS;
 
@@ -45,24 +45,21 @@ fn started() -> LogRecord {
     }
 }
 
+// What is written of a record.
 fn writing(name: &[u8], r: LogRecord) {
     let mut buf = [0u8; RECORD_BYTES];
+    let part = log_record::write_record(&mut buf, r);
     text(name);
-    match log_record::put_record(&mut buf, r) {
-        Written::Bytes(n) => {
-            text(b": ");
-            number(n as u64);
-            text(b" bytes, opens ");
-            byte(buf[0]);
-            text(b" ");
-            byte(buf[1]);
-            text(b" ");
-            byte(buf[2]);
-        }
-        Written::Nothing(x) => {
-            text(b": refused ");
-            number(log_record::number(x));
-        }
+    text(b": ");
+    number(part.len() as u64);
+    text(b" bytes");
+    if part.len() > 2 {
+        text(b", opens ");
+        byte(part[0]);
+        text(b" ");
+        byte(part[1]);
+        text(b" ");
+        byte(part[2]);
     }
     text(b"\n");
 }
@@ -78,15 +75,19 @@ fn fill(log: &mut [u8], r: LogRecord) {
     }
 }
 
-// What the first n bytes of a buffer are as a log.
-fn checking(buf: &[u8; TOO_LONG], n: usize) {
-    let log = &buf[..];
-    if n > log.len() {
-        return;
+// The first n bytes, or all where there are fewer.
+fn front<'a>(s: &'a [u8], n: usize) -> &'a [u8] {
+    if n > s.len() {
+        return s;
     }
+    &s[0..n]
+}
+
+// Whether bytes are a log.
+fn checking(log: &[u8]) {
     text(b"log of ");
-    number(n as u64);
-    match logbook::check_log(&log[0..n], 0) {
+    number(log.len() as u64);
+    match logbook::check_log(log, 0) {
         Checked::Records(count) => {
             text(b" bytes: records ");
             number(count as u64);
@@ -100,11 +101,61 @@ fn checking(buf: &[u8; TOO_LONG], n: usize) {
     text(b"\n");
 }
 
+// What is prepared at a place of a log.
+fn asking(log: &[u8], place: usize) {
+    text(b"place ");
+    number(place as u64);
+    match logbook::prepared_at(log, place) {
+        Answer::Found(p) => {
+            text(b" of it: looked at ");
+            number(p.looked as u64);
+        }
+        Answer::Refused(f) => {
+            let refusal = f.refusal;
+            text(b" of it: refused ");
+            number(log_record::number(refusal));
+        }
+    }
+    text(b"\n");
+}
+
+fn named(name: &[u8], n: u64) {
+    text(b" ");
+    text(name);
+    text(b" ");
+    number(n);
+}
+
+// The numbers of the kinds and of the outcomes.
+fn numbers() {
+    text(b"kinds:");
+    named(b"call", log_record::CALL);
+    named(b"prime", log_record::PRIME_REPORT);
+    named(b"activate", log_record::ACTIVATE_REPORT);
+    named(b"image", log_record::IMAGE);
+    text(b"\noutcomes:");
+    named(b"returned", log_record::RETURNED);
+    named(b"held", log_record::HELD);
+    named(b"prime-started", log_record::PRIME_STARTED);
+    named(b"activation-started", log_record::ACTIVATION_STARTED);
+    named(b"gone", log_record::GONE);
+    named(b"released", log_record::RELEASED);
+    named(b"noted", log_record::NOTED);
+    text(b"\n");
+}
+
 pub(crate) fn all() {
+    numbers();
     writing(b"image 1 version 5", image());
     writing(b"PRIME started by CPU 5", started());
     let mut log = [0u8; TOO_LONG];
     fill(&mut log, image());
-    checking(&log, LONGEST);
-    checking(&log, TOO_LONG);
+    checking(&log);
+    checking(front(&log, LONGEST));
+    asking(front(&log, LONGEST), MOST_RECORDS);
+    asking(front(&log, LONGEST), MOST_RECORDS + 1);
+    let rest = log_record::rest(&log);
+    text(b"past its first record: ");
+    number(rest.len() as u64);
+    text(b" bytes\n");
 }

@@ -8,8 +8,8 @@ use logbook::MOST_RECORDS;
 use logbook::Prepared;
 use logbook::Primed;
 ghost use mathlib.Core.Path.{_≡_};
-ghost use Prim.Native.Nat.{_≤_};
-ghost use Rattle.logbook.specs.Log.{mostRecords, pastOf};
+ghost use Rattle.logbook.specs.Log.{pastOf, checkedOf};
+ghost use Rattle.logbook.specs.declared.Checked.the-variants.{Records, Refused};
 ghost use Rattle.logbook.specs.Prepared.{preparedOf};
 
 // One byte more than the longest log: a log that fills it is too long, whatever follows.
@@ -41,7 +41,7 @@ fn line(log: &[u8], place: usize, p: Prepared)
 
 // The lines of a log of n records, each of which is read once.
 fn lines(log: &[u8], n: usize)
-    requires { ⌜ n ≤ mostRecords ⌝ }
+    requires { ⌜ checkedOf (now log) 0 ≡ Records n ⌝ }
 {
     let mut p = Prepared {
         primed: Primed::Nothing,
@@ -56,7 +56,10 @@ fn lines(log: &[u8], n: usize)
     }
 }
 
-fn refused(f: Flaw) {
+// The line of a log that is refused.
+fn refused(log: &[u8], f: Flaw)
+    requires { ⌜ checkedOf (now log) 0 ≡ Refused f ⌝ }
+{
     let refusal = f.refusal;
     text(b"refused ");
     number(log_record::number(refusal));
@@ -71,7 +74,7 @@ fn replay(log: &[u8]) {
             text(b"place primed looked\n");
             lines(log, n);
         }
-        Checked::Refused(f) => refused(f),
+        Checked::Refused(f) => refused(log, f),
     }
 }
 

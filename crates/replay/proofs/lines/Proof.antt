@@ -4,6 +4,7 @@ use mathlib.Core.Path.{_≡_, refl, _∙_}
 use borrow.Author.Needs.{needs}
 use Rattle.logbook.specs.Log.{pastOf}
 use Rattle.logbook.specs.Prepared.{preparedOf}
+use Rattle.logbook.proofs.Laws.{checked-sound}
 use Rattle.logbook.proofs.Walk.{prepared-next}
 use Rattle.replay.proofs.lines.Statement.{statement}
 use Rattle.replay.proofs.lines.Tie as tie
@@ -32,7 +33,9 @@ add-k c = omega arith
 next : (c : tie.After-prepared-next Inv-loop μ-loop) → c .prepared-next .result ≡ preparedOf (pastOf (c .before .before .before .before .before .args .log .now) (c .before .before .loop .k + 1))
 next c =
     let l = c .before .before in
-    let s = l .before .before .before .args .log .now in
+    let a = l .before .before .before in
+    let s = a .args .log .now in
+    let few = checked-sound s 0 (a .args .n) (a .pre) .few in
     rw (l .loop .inv .1) at (c .prepared-next .ensures) ∙ prepared-next s (l .loop .k) (omega arith)
 
 line-requires-2 : tie.Need-line-requires-2 Inv-loop μ-loop
