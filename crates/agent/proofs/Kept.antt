@@ -22,7 +22,7 @@ use Rattle.board.proofs.Laws.{stands-counted}
 use Rattle.board_record.proofs.Laws.{room-most}
 use Rattle.board_record.specs.Record.{subjectOf, isAbout, holdingOf, skipsRendezvous, isAlone, isPending, versionOf}
 use Rattle.board_record.specs.WellFormed.{poweredStand, imageStands, imageAt, imagesStand, subjectStands, standsBy, stateStands, heldStand, keepsEntries, keepersOf, entryStands, entryAt, entriesStand, wellFormed}
-use Rattle.board_record.proofs.Clauses.{WellFormed, Sized, told, shown, powered-within, powered-set, held-within, entries-zero}
+use Rattle.board_record.proofs.Clauses.{WellFormed, Sized, told, shown, powered-within, on-set, held-on, held-none, entries-zero}
 use Rattle.board_record.specs.declared.Record.{Record}
 use Rattle.board_record.specs.declared.State.{State}
 use Rattle.board_record.specs.declared.State.the-variants.{Idle, Preparing, HalfPrepared, Ready, Gathering, Together, Alone, HalfActivated, Dead}
@@ -169,12 +169,6 @@ loose-held Dead on on′ held f h w = h
 
 -- ---- each move
 module _ (r : Record) (w : WellFormed r) (z : Sized r) where
-  on-set : Set (r .on)
-  on-set = powered-set (r .board .cpus) (r .on) (w .powered)
-
-  held-on : withinOf (r .held) (r .on) ≡ true
-  held-on = held-within (r .state) (r .on) (r .held) on-set (w .held)
-
   -- what the state's component is
   mine : (c : ℕ) → subjectOf (r .state) ≡ subject.Of c
       → subjectStands (numberedOf (r .board) c) (skipsRendezvous (r .state)) (isPending (r .pending) c) (versionOf (r .version) c) ≡ true
@@ -183,11 +177,6 @@ module _ (r : Record) (w : WellFormed r) (z : Sized r) where
   calm : (c : ℕ) → subjectOf (r .state) ≡ subject.Of c
       → subjectStands (numberedOf (r .board) c) false (isPending (r .pending) c) (versionOf (r .version) c) ≡ true
   calm c q = subject-calm (numberedOf (r .board) c) (skipsRendezvous (r .state)) _ _ (mine c q)
-
-  -- in a state that holds nobody
-  nobody : holdingOf (r .state) ≡ Nobody → r .held ≡ noneOf
-  unfolding heldStand
-  nobody h = same-is (r .held) noneOf (rw h at (w .held))
 
   -- a caller joins: what has to be seen of the next state
   join-kept : (s : State) (a : Arrival) → stateStands (r .board) (r .pending) (r .version) s ≡ true
@@ -212,7 +201,7 @@ module _ (r : Record) (w : WellFormed r) (z : Sized r) where
   unfolding heldStand entryStands
   alone-kept s a h p state one none e c =
       join-kept s a state
-      (rw (one, nobody h) (one-held (r .on) (a .cpu) on-set p (rw (nobody h) at held-on)))
+      (rw (one, held-none r w h) (one-held (r .on) (a .cpu) (on-set r w) p (rw (held-none r w h) at (held-on r w))))
       (λ j d. rw (none, resting (r .board) (r .state) h))
       (rw (none, has-none (a .cpu), e, c))
 
@@ -254,7 +243,7 @@ module _ (r : Record) (w : WellFormed r) (z : Sized r) where
       let id = ap (λ (x : Arrival). x .component) (g .arrival) in
       subst (λ (c : ℕ). WellFormed (joinedOf r (Gathering c) a)) (sym id)
       (gathered e a false g (Gathering (call .x1)) refl (calm (call .x1) (gather-subject (r .state) (call .x1) (g .state)))
-      (rw (← some, g .present) (with-within (r .held) (r .on) (call .cpu) on-set held-on (g .by .powered))))
+      (rw (← some, g .present) (with-within (r .held) (r .on) (call .cpu) (on-set r w) (held-on r w) (g .by .powered))))
 
   together-kept : (e : Event) (a : Arrival) → Joins r e a true → WellFormed (joinedOf r (Together (a .component)) a)
   unfolding arrivalOf stateStands heldStand
@@ -307,11 +296,11 @@ module _ (r : Record) (w : WellFormed r) (z : Sized r) where
       let free : hasOf (r .held) cpu ≡ false = ap (hasOf (r .held)) (g .caller) ∙ g .by .free in
       let below = belowOf (r .board .cpus) in
       powered-kept (withoutOf on cpu) (g .loose)
-      (rw (without-some on cpu on-set (ap (hasOf on) (g .caller) ∙ g .by .powered) (g .others))
-      (within-of (withoutOf on cpu) below (set-without on cpu on-set)
+      (rw (without-some on cpu (on-set r w) (ap (hasOf on) (g .caller) ∙ g .by .powered) (g .others))
+      (within-of (withoutOf on cpu) below (set-without on cpu (on-set r w))
       (λ j l p. within-has on below (powered-within (r .board .cpus) on (w .powered)) j (and-left (hasOf on j) _ (sym (has-without on cpu j) ∙ p)))))
-      (within-of (r .held) (withoutOf on cpu) (set-within (r .held) on on-set held-on)
-      (λ j l p. without-other on cpu j (λ q. not-both p (ap (hasOf (r .held)) q ∙ free)) ∙ within-has (r .held) on held-on j p))
+      (within-of (r .held) (withoutOf on cpu) (set-within (r .held) on (on-set r w) (held-on r w))
+      (λ j l p. without-other on cpu j (λ q. not-both p (ap (hasOf (r .held)) q ∙ free)) ∙ within-has (r .held) on (held-on r w) j p))
 
   on-kept : (e : Event) (x : Waking) → TurnsOn r e x → WellFormed (poweredOf r (withOf (r .on) (x .target)))
   unfolding poweredStand
@@ -324,8 +313,8 @@ module _ (r : Record) (w : WellFormed r) (z : Sized r) where
       (rw (with-some on i fits)
       (with-within on below i (set-below (r .board .cpus)) (powered-within (r .board .cpus) on (w .powered))
       (rw (has-below (r .board .cpus) i, lt-ltb i room fits) (lt-ltb i (r .board .cpus) (g .exists)))))
-      (within-of (r .held) (withOf on i) (set-within (r .held) on on-set held-on)
-      (λ j l p. rw (has-with on i j, within-has (r .held) on held-on j p)))
+      (within-of (r .held) (withOf on i) (set-within (r .held) on (on-set r w) (held-on r w))
+      (λ j l p. rw (has-with on i j, within-has (r .held) on (held-on r w) j p)))
 
   -- only an optional component is called again
   again-optional : (e : Event) (p : Report) → EndsActivate r e p → p .code ≡ 1 → numberedOf (r .board) (p .component) .optional ≡ true

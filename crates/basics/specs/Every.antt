@@ -3,11 +3,12 @@ use Prim.Native.Nat.{ℕ, zero, suc, _+_, _<_, _≤_}
 use mathlib.Core.Path.{_≡_, refl, sym, ap, _∙_}
 use mathlib.Core.Bool.{Bool, true, false, _&&_, and-false}
 use mathlib.Core.List.{List, [], _∷_}
-use lib.Dec.{eqb}
+use lib.Dec.{eqb, ltb}
+use borrow.Author.Tests.{eqb-true, ltb-true}
 use native.Mathlib.Numerals.{add-one}
 use native.Mathlib.Omega.{arith}
 use native.Mathlib.Nat.{not-suc-le-zero, le-antisymm}
-use Rattle.basics.specs.Choice.{pick, and-left, and-right}
+use Rattle.basics.specs.Choice.{pick, pick-cases, not-both, and-left, and-right}
 use Rattle.basics.specs.Order.{last-cases}
 
 unfoldable pub allBelow : ℕ → (ℕ → Bool) → Bool
@@ -58,6 +59,19 @@ all-same (suc n) f g h = rw (all-same n f g (λ i l. h i (omega arith)), h n (om
 abbrev pub oneOf : ℕ → List ℕ → Bool
 oneOf n [] = false
 oneOf n (k ∷ ks) = pick (eqb n k) true (oneOf n ks)
+
+-- and then it is below what they are all below
+abbrev pub allUnder : ℕ → List ℕ → Bool
+allUnder m [] = true
+allUnder m (k ∷ ks) = pick (ltb k m) (allUnder m ks) false
+
+pub one-under : (n m : ℕ) (ks : List ℕ) → allUnder m ks ≡ true → oneOf n ks ≡ true → n < m
+one-under n m [] = λ u e. absurd (not-both e refl)
+one-under n m (k ∷ ks) =
+    pick-cases (λ (t : Bool). t ≡ true → oneOf n (k ∷ ks) ≡ true → n < m) (ltb k m) (allUnder m ks) false
+    (λ l u. pick-cases (λ (t : Bool). t ≡ true → n < m) (eqb n k) true (oneOf n ks)
+    (λ q h. let s = eqb-true n k q in let b = ltb-true k m l in omega arith) (λ q. one-under n m ks u))
+    (λ l u. absurd (not-both u refl))
 
 -- every entry of a list of examples holds
 unfoldable pub allHold : List Bool → Bool

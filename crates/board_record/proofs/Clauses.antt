@@ -4,7 +4,7 @@ use mathlib.Core.Path.{_≡_}
 use mathlib.Core.Bool.{Bool, true, not, _&&_}
 use lib.Dec.{eqb}
 use lib.ListN.{length, replicate, getD-replicate}
-use Rattle.basics.specs.Choice.{not-both, and-left, and-right}
+use Rattle.basics.specs.Choice.{not-both, and-left, and-right, both}
 use Rattle.basics.specs.Every.{all-of}
 use Rattle.cpuset.specs.Set.{Set, hasOf, noneOf, belowOf, sameOf, withinOf, countOf}
 use Rattle.cpuset.specs.Laws.{has-none, set-none, set-below, set-within, same-is, within-of}
@@ -26,9 +26,6 @@ pub record WellFormed (r : Record) : Type 0 where
   pub state : stateStands (r .board) (r .pending) (r .version) (r .state) ≡ true
   pub held : heldStand (r .state) (r .on) (r .held) ≡ true
   pub entries : entriesStand (r .board .first) (r .board .last) (keepersOf (r .board) (r .state) (r .held)) (r .entry) (r .context) ≡ true
-
-both : (a b : Bool) → (a && b) ≡ true → (a ≡ true) × (b ≡ true)
-both a b e = (and-left a b e, and-right a b e)
 
 pub told : (r : Record) → wellFormed r ≡ true → WellFormed r
 unfolding wellFormed restStands workStands
@@ -78,3 +75,16 @@ held-within s on held p e = held-by (holdingOf s) on held p e
 pub entries-zero : (first last : ℕ) → entriesStand first last noneOf (replicate mostCpus 0) (replicate mostCpus 0) ≡ true
 unfolding entriesStand entryStands
 entries-zero first last = all-of mostCpus _ (λ i l. rw (has-none i, getD-replicate {A = ℕ} mostCpus i 0 0 l))
+
+-- ---- of a whole record
+module _ (r : Record) (w : WellFormed r) where
+  pub on-set : Set (r .on)
+  on-set = powered-set (r .board .cpus) (r .on) (w .powered)
+
+  pub held-on : withinOf (r .held) (r .on) ≡ true
+  held-on = held-within (r .state) (r .on) (r .held) on-set (w .held)
+
+  -- in a state that holds nobody
+  pub held-none : holdingOf (r .state) ≡ Nobody → r .held ≡ noneOf
+  unfolding heldStand
+  held-none h = same-is (r .held) noneOf (rw h at (w .held))

@@ -143,6 +143,14 @@ within-of s t p h = none-of (lessOf s t) (set-less s t p) λ j l. has-less s t j
     left true b f = rw (f refl)
     left false b f = refl
 
+-- nobody more
+pub union-none : (s : CpuSet) → Set s → unionOf s noneOf ≡ s
+union-none s p =
+    same-members (unionOf s noneOf) s (set-union s noneOf p set-none) p (λ j l. rw (has-union, has-none) (or-false (hasOf s j)))
+
+pub none-union : (s : CpuSet) → Set s → unionOf noneOf s ≡ s
+none-union s p = same-members (unionOf noneOf s) s (set-union noneOf s set-none p) p (λ j l. rw (has-union, has-none))
+
 -- ---- one member more or less
 only-self : (i : ℕ) → i < room → hasOf (onlyOf i) i ≡ true
 only-self i l = rw (has-only, lt-ltb i room l, eq-eqb i i refl)
@@ -161,6 +169,9 @@ without-other s i j d = rw (has-less, only-other i j d) (and-true (hasOf s j))
 
 pub with-some : (s : CpuSet) (i : ℕ) → i < room → sameOf (withOf s i) noneOf ≡ false
 with-some s i l = refuted (sameOf (withOf s i) noneOf) (λ e. not-both (with-self s i l) (none-has (withOf s i) e i))
+
+pub without-self : (s : CpuSet) (i : ℕ) → hasOf (withoutOf s i) i ≡ false
+without-self s i = lt-cases i room (λ l. rw (has-less, only-self i l) (and-false (hasOf s i))) (has-out (withoutOf s i) i)
 
 -- without one that is not the only one
 pub without-some : (s : CpuSet) (i : ℕ) → Set s → hasOf s i ≡ true → sameOf s (onlyOf i) ≡ false → sameOf (withoutOf s i) noneOf ≡ false
@@ -219,7 +230,7 @@ pub count-without : (s : CpuSet) (i : ℕ) → hasOf s i ≡ true → countOf s 
 unfolding countOf
 count-without s i h =
     let l = has-room s i h in
-    tally-more room (hasOf (withoutOf s i)) (hasOf s) i l (rw (has-less, only-self i l) (and-false (hasOf s i))) h
+    tally-more room (hasOf (withoutOf s i)) (hasOf s) i l (without-self s i) h
     (without-other s i)
 
 -- what the code counts is that

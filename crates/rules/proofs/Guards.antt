@@ -23,11 +23,11 @@ use Rattle.board_record.specs.declared.Subject.the-variants as subject
 use Rattle.rules.specs.Statuses.{minusOf, numberOf}
 use Rattle.rules.specs.Numbers.{decodeOf}
 use Rattle.rules.specs.Table.{ruleOf}
-use Rattle.rules.specs.Calls.{returned, says, noCaller, featuresOf, infoOf, inventoryOf, arrivalOf, mayPrime, tryPrimeOf, trySameOf, primeBy, skips, skipRight, fieldsRight, entryRight, joinOf, tryActivateOf, activateBy, isOther, cancelBy, cancelOf, offFree, offBy, wakeBy, onOf, functionOf, answerBy, answerOf, callOf}
+use Rattle.rules.specs.Calls.{returned, says, noCaller, featuresOf, infoOf, describedOf, inventoryOf, arrivalOf, mayPrime, tryPrimeOf, trySameOf, primeBy, skips, skipRight, fieldsRight, entryRight, joinOf, tryActivateOf, activateBy, isOther, cancelBy, cancelOf, offFree, offBy, wakeBy, onOf, functionOf, answerBy, answerOf, callOf}
 use Rattle.rules.specs.Reports.{isPriming, isActivating, activateAllows, primeReportOf, activateReportOf, imageOf}
 use Rattle.rules.specs.Decide.{eventOf, decideOf}
 use Rattle.rules.specs.declared.Arrival.{Arrival}
-use Rattle.rules.specs.declared.Call.{Call}
+use Rattle.codes.specs.declared.Call.{Call}
 use Rattle.rules.specs.declared.Event.{Event}
 use Rattle.rules.specs.declared.Event.the-variants as event
 use Rattle.rules.specs.declared.Image.{Image}
@@ -61,10 +61,16 @@ pub record Called (r : Record) (e : Event) : Type 0 where
 abbrev pub Asks : Call → Function → Type 0
 Asks call f = decodeOf (functionNumber (call .x0)) ≡ Known f
 
--- the record stays; a CANCEL that returned 0 found nothing to end
+-- the record stays; X0 is a word, a CANCEL that returned 0 found nothing to end, and no CPU_ON returned 0
 pub record Returns (r : Record) (e : Event) (x : Registers) : Type 0 where
   pub by : Called r e
+  pub word : x .x0 < 2 ^ 64
   pub cancelled : Asks (by .call) function.Cancel → x .x0 ≡ 0 → subjectOf (r .state) ≡ subject.Nothing
+  pub switched : Asks (by .call) function.CpuOn → x .x0 ≡ 0 → ⊥
+
+pub record NotesInfo (r : Record) (e : Event) : Type 0 where
+  pub by : Called r e
+  pub asks : Asks (by .call) function.GetInfo
 
 -- a state from which a component can be primed
 abbrev pub Primable : State → ℕ → Type 0
@@ -192,7 +198,7 @@ pub record NotesImage (r : Record) (e : Event) (i : Image) : Type 0 where
 abbrev pub Facts : Record → Event → Move → Type 0
 Facts r e (Refuse x) = Refuses r x
 Facts r e (Return x) = Returns r e x
-Facts r e NoteInfo = Called r e
+Facts r e NoteInfo = NotesInfo r e
 Facts r e (StartPrime a) = Primes r e a
 Facts r e (Gather a) = Joins r e a false
 Facts r e (StartTogether a) = Joins r e a true
@@ -228,20 +234,31 @@ unfolding minusOf
 not-zero k d l =
     pick-cases (λ n. n ≡ 0 → ⊥) (eqb k 0) 0 (2 ^ 64 - k) (λ t z. d (eqb-true k 0 t)) (λ f z. omega arith)
 
-abbrev isCancel : Function → Bool
-isCancel function.Version = false
-isCancel function.Features = false
-isCancel function.GetInfo = false
-isCancel function.GetInventory = false
-isCancel function.Prime = false
-isCancel function.Activate = false
-isCancel function.Cancel = true
-isCancel function.CpuOff = false
-isCancel function.CpuOn = false
+-- a status is a word
+pub minus-word : (k : ℕ) → minusOf k < 2 ^ 64
+unfolding minusOf
+minus-word k =
+    pick-cases (λ n. n < 2 ^ 64) (eqb k 0) 0 (2 ^ 64 - k) (λ t. omega arith) (λ f. let d = eqb-false k 0 f in omega arith)
 
-abbrev asksCancel : Decoded → Bool
-asksCancel (Known f) = isCancel f
-asksCancel Unknown = false
+-- no word names both
+unlike : Known function.Cancel ≡ Known function.CpuOn → ⊥
+unlike e = let z : _≡_ {A = ℕ} 0 1 = cc in omega arith
+
+-- the functions whose success the record shows, and so the log
+abbrev isTelling : Function → Bool
+isTelling function.Version = false
+isTelling function.Features = false
+isTelling function.GetInfo = false
+isTelling function.GetInventory = false
+isTelling function.Prime = false
+isTelling function.Activate = false
+isTelling function.Cancel = true
+isTelling function.CpuOff = false
+isTelling function.CpuOn = true
+
+abbrev tells : Decoded → Bool
+tells (Known f) = isTelling f
+tells Unknown = false
 
 -- the states in which ACTIVATE is tried, by what its fields passed
 abbrev Tried : State → Type 0
@@ -297,13 +314,21 @@ module _ (r : Record) (e : Event) (by : Called r e) where
       let all : sameOf (r .held) (r .on) ≡ true = rw h at (told r w .held) in
       not-both (ap (λ (s : CpuSet). hasOf s (call .cpu)) (same-is (r .held) (r .on) all) ∙ by .powered) (by .free)
 
-  -- it returns, and was no CANCEL
-  plain : (d : Decoded) (x : Registers) → decodeOf (functionNumber (call .x0)) ≡ d → asksCancel d ≡ false → Guard r e (Return x)
-  plain d x a n = made r e (Return x) (record { by = by; cancelled = λ c z. absurd (not-both (ap asksCancel (sym a ∙ c)) n) })
+  -- it returns, and was neither CANCEL nor CPU_ON
+  plain : (d : Decoded) (x : Registers) → x .x0 < 2 ^ 64 → decodeOf (functionNumber (call .x0)) ≡ d → tells d ≡ false → Guard r e (Return x)
+  plain d x l a n = made r e (Return x) (record {
+    by = by;
+    word = l;
+    cancelled = λ c z. absurd (not-both (ap tells (sym a ∙ c)) n);
+    switched = λ c z. not-both (ap tells (sym a ∙ c)) n;
+  })
 
-  said : (d : Decoded) (x0 : ℕ) → decodeOf (functionNumber (call .x0)) ≡ d → asksCancel d ≡ false → Guard r e (returned x0)
+  told-plain : (d : Decoded) (x0 : ℕ) → x0 < 2 ^ 64 → decodeOf (functionNumber (call .x0)) ≡ d → tells d ≡ false → Guard r e (returned x0)
   unfolding returned
-  said d x0 a n = plain d (record { x0 = x0; x1 = 0; x2 = 0; x3 = 0 }) a n
+  told-plain d x0 l a n = plain d (record { x0 = x0; x1 = 0; x2 = 0; x3 = 0 }) l a n
+
+  said : (d : Decoded) (k : ℕ) → decodeOf (functionNumber (call .x0)) ≡ d → tells d ≡ false → Guard r e (says k)
+  said d k a n = told-plain d (minusOf k) (minus-word k) a n
 
   features-guard : Asks call function.Features → Guard r e (featuresOf (call .x1))
   unfolding featuresOf
@@ -312,13 +337,17 @@ module _ (r : Record) (e : Event) (by : Called r e) where
 
   info-guard : Asks call function.GetInfo → Guard r e (infoOf (call .x1))
   unfolding infoOf
-  info-guard a = pick-cases (Guard r e) (eqb (call .x1) 0) _ _ (λ t. made r e NoteInfo by) (λ t. said _ _ a refl)
+  info-guard a = pick-cases (Guard r e) (eqb (call .x1) 0) _ _ (λ t. made r e NoteInfo (record { by = by; asks = a })) (λ t. said _ _ a refl)
+
+  described : (pending : Bool) → Asks call function.GetInventory → Guard r e (Return (describedOf (numberedOf (r .board) (call .x1)) pending))
+  unfolding describedOf
+  described pending a = plain _ _ (omega arith) a refl
 
   inventory-guard : Asks call function.GetInventory → Guard r e (inventoryOf r (call .x1))
   unfolding inventoryOf
   inventory-guard a =
       pick-cases (Guard r e) (r .informed) _ _
-      (λ t. pick-cases (Guard r e) (ltb (call .x1) (r .board .components)) _ _ (λ u. plain _ _ a refl) (λ u. said _ _ a refl))
+      (λ t. pick-cases (Guard r e) (ltb (call .x1) (r .board .components)) _ _ (λ u. described (isPending (r .pending) (call .x1)) a) (λ u. said _ _ a refl))
       (λ t. said _ _ a refl)
 
   primes : Asks call function.Prime → Primable (r .state) (call .x1) → mayPrime r (call .x1) ≡ true
@@ -431,21 +460,21 @@ module _ (r : Record) (e : Event) (by : Called r e) where
   activate-guard a (HalfActivated c) q = try-activate a (subst Tried (sym q) tt)
   activate-guard a Dead q = said _ _ a refl
 
-  -- a CANCEL that does not return 0
+  -- a status that is not 0
   denied : (k : ℕ) → (k ≡ 0 → ⊥) → k < 2 ^ 64 → Guard r e (says k)
   unfolding returned
-  denied k d l = made r e (Return _) (record { by = by; cancelled = λ c z. absurd (not-zero k d l z) })
+  denied k d l = made r e (Return _) (record { by = by; word = minus-word k; cancelled = λ c z. absurd (not-zero k d l z); switched = λ c z. not-zero k d l z })
 
   -- one that finds nothing to end
-  nothing : subjectOf (r .state) ≡ subject.Nothing → Guard r e (says 0)
+  nothing : Asks call function.Cancel → subjectOf (r .state) ≡ subject.Nothing → Guard r e (says 0)
   unfolding returned
-  nothing q = made r e (Return _) (record { by = by; cancelled = λ c z. q })
+  nothing a q = made r e (Return _) (record { by = by; word = minus-word 0; cancelled = λ c z. q; switched = λ c z. absurd (unlike (sym a ∙ c)) })
 
   goes-idle : Asks call function.Cancel → Cancellable (r .state) (call .x1) → Guard r e ToIdle
   goes-idle a s = made r e ToIdle (record { by = by; asks = a; state = s })
 
   cancel-cell : Asks call function.Cancel → (s : State) → r .state ≡ s → isOther s (call .x1) ≡ false → Guard r e (cancelBy (ruleOf s .cancel))
-  cancel-cell a Idle q o = nothing (rw q)
+  cancel-cell a Idle q o = nothing a (rw q)
   cancel-cell a (Preparing c) q o = denied 2 (λ z. omega arith) (omega arith)
   cancel-cell a (HalfPrepared c) q o = goes-idle a (in-state Cancellable q (eqb-true c (call .x1) (not-false _ o)))
   cancel-cell a (Ready c) q o = goes-idle a (in-state Cancellable q (eqb-true c (call .x1) (not-false _ o)))
@@ -453,7 +482,7 @@ module _ (r : Record) (e : Event) (by : Called r e) where
   cancel-cell a (Together c) q o = nobody-calls (rw q)
   cancel-cell a (Alone c) q o = denied 2 (λ z. omega arith) (omega arith)
   cancel-cell a (HalfActivated c) q o = goes-idle a (in-state Cancellable q (eqb-true c (call .x1) (not-false _ o)))
-  cancel-cell a Dead q o = nothing (rw q)
+  cancel-cell a Dead q o = nothing a (rw q)
 
   cancel-guard : Asks call function.Cancel → Guard r e (cancelOf r call)
   unfolding cancelOf
@@ -488,23 +517,23 @@ module _ (r : Record) (e : Event) (by : Called r e) where
     wake-guard (Preparing c) q = wakes (subst Loose (sym q) tt)
     wake-guard (HalfPrepared c) q = wakes (subst Loose (sym q) tt)
     wake-guard (Ready c) q = wakes (subst Loose (sym q) tt)
-    wake-guard (Gathering c) q = said _ _ a refl
+    wake-guard (Gathering c) q = denied 6 (λ z. omega arith) (omega arith)
     wake-guard (Together c) q = nobody-calls (rw q)
-    wake-guard (Alone c) q = said _ _ a refl
-    wake-guard (HalfActivated c) q = said _ _ a refl
+    wake-guard (Alone c) q = denied 6 (λ z. omega arith) (omega arith)
+    wake-guard (HalfActivated c) q = denied 6 (λ z. omega arith) (omega arith)
     wake-guard Dead q = wakes (subst Loose (sym q) tt)
 
   on-guard : Asks call function.CpuOn → Guard r e (onOf r call)
   unfolding onOf
   on-guard a =
-      pick-cases (Guard r e) (leb (r .board .cpus) (call .x1)) _ _ (λ t. said _ _ a refl)
+      pick-cases (Guard r e) (leb (r .board .cpus) (call .x1)) _ _ (λ t. denied 2 (λ z. omega arith) (omega arith))
       (λ l. pick-cases (Guard r e) (goodEntry (r .board .first) (r .board .last) (call .x2)) _ _
-      (λ g. pick-cases (Guard r e) (hasOf (r .on) (call .x1)) _ _ (λ t. said _ _ a refl)
+      (λ g. pick-cases (Guard r e) (hasOf (r .on) (call .x1)) _ _ (λ t. denied 4 (λ z. omega arith) (omega arith))
       (λ o. wake-guard a (leb-false _ _ l) g o (r .state) refl))
-      (λ g. said _ _ a refl))
+      (λ g. denied 9 (λ z. omega arith) (omega arith)))
 
   function-guard : (f : Function) → Asks call f → Guard r e (functionOf r call f)
-  function-guard function.Version a = said _ _ a refl
+  function-guard function.Version a = told-plain _ _ (omega arith) a refl
   function-guard function.Features a = features-guard a
   function-guard function.GetInfo a = info-guard a
   function-guard function.GetInventory a = inventory-guard a

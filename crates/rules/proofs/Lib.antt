@@ -3,3 +3,4 @@ pub mod Table
 pub mod Guards
 pub mod States
 pub mod Pinned
+pub mod Named

@@ -19,7 +19,7 @@ use Rattle.board_record.specs.declared.Subject.the-variants as subject
 use Rattle.rules.specs.Statuses.{minusOf}
 use Rattle.rules.specs.Numbers.{decodeOf}
 use Rattle.rules.specs.Table.{ruleOf}
-use Rattle.rules.specs.declared.Call.{Call}
+use Rattle.codes.specs.declared.Call.{Call}
 use Rattle.rules.specs.declared.Registers.{Registers}
 use Rattle.rules.specs.declared.Arrival.{Arrival}
 use Rattle.rules.specs.declared.Refusal.the-variants.{NotWellFormed, NoSuchCpu, CpuOff, CpuHeld}

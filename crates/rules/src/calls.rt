@@ -1,6 +1,5 @@
 // The nine calls.
 use crate::Arrival;
-use crate::Call;
 use crate::Move;
 use crate::Refusal;
 use crate::Registers;
@@ -17,6 +16,7 @@ use board_record::Record;
 use board_record::State;
 use board_record::Subject;
 use codes::CANCEL;
+use codes::Call;
 use codes::VERSION;
 ghost use mathlib.Core.Path.{_≡_};
 ghost use Prim.Native.Nat.{_+_, _≤_};

@@ -8,16 +8,7 @@ ghost use mathlib.Core.Path.{_≡_};
 ghost use Rattle.rules.specs.Statuses.{minusOf, numberOf};
 ghost use Rattle.rules.specs.Decide.{decideOf};
 use board_record::Record;
-
-// A call: which CPU makes it, and its registers.
-pub struct Call {
-    pub cpu: u64,
-    pub x0: u64,
-    pub x1: u64,
-    pub x2: u64,
-    pub x3: u64,
-    pub x4: u64,
-}
+use codes::Call;
 
 // The end of a job: of which component, and how it went.
 pub struct Report {

@@ -1,0 +1,5 @@
+pub mod Laws
+pub mod Meant
+pub mod Limits
+pub mod ExactlyWhen
+pub mod Pinned

@@ -1,0 +1,3 @@
+pub mod Story
+pub mod Starts
+pub mod Phrases

@@ -1,0 +1,7 @@
+pub mod Told
+pub mod Agreed
+pub mod Taken
+pub mod Runs
+pub mod Steady
+pub mod Demand
+pub mod Pinned

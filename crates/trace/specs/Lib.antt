@@ -1,0 +1,4 @@
+pub mod Logged
+pub mod Run
+pub mod Turn
+pub mod Steady
