@@ -1,3 +1,4 @@
 pub mod Story
 pub mod Starts
 pub mod Phrases
+pub mod Examples

@@ -1,0 +1,106 @@
+// takes a log through the agent and the plain reader side by side: bench BOARD LOG, two file names
+mod files;
+mod words;
+
+ghost use mathlib.Core.Path.{_≡_};
+ghost use Rattle.logbook.specs.Log.{checkedOf};
+ghost use Rattle.logbook.specs.declared.Checked.the-variants.{Records};
+ghost use Rattle.trace.specs.Turn.{turnAt};
+use board::Board;
+use board::MOST_BYTES;
+use board::Verdict;
+use files::File;
+use log_record::RECORD_BYTES;
+use logbook::Checked;
+use logbook::Flaw;
+use logbook::MOST_RECORDS;
+use trace::Turn;
+use words::number;
+use words::text;
+
+// One byte more than the longest description, and than the longest log: a file that fills it is too long, whatever follows.
+const BOARD_ROOM: usize = MOST_BYTES + 1;
+
+const LOG_ROOM: usize = MOST_RECORDS * RECORD_BYTES + 1;
+
+// The line of record k.
+fn line(b: Board, log: &[u8], k: usize, t: Turn)
+    requires { ⌜ t ≡ turnAt b (now log) k ⌝ }
+{
+    let replayed = t.replayed;
+    let agent = t.agent;
+    let reader = t.reader;
+    number(k as u64);
+    text(b" ");
+    words::replayed(replayed);
+    text(b" ");
+    words::started(agent);
+    text(b" ");
+    words::started(reader);
+    if t.differs {
+        text(b" differs");
+    }
+    text(b"\n");
+}
+
+// The lines of a log of n records, each taken once through both.
+fn lines(b: Board, log: &[u8], n: usize)
+    requires { ⌜ checkedOf (now log) 0 ≡ Records n ⌝ }
+{
+    text(b"place outcome word6 agent reader\n");
+    let mut rec = board_record::fresh(b);
+    let mut story = reader::opening();
+    let mut k: usize = 0;
+    while k < n {
+        let r = logbook::said_at(log, k);
+        let t = trace::turned(rec, b, story, r);
+        line(b, log, k, t);
+        rec = t.rec;
+        story = reader::told(story, r);
+        k += 1;
+    }
+}
+
+fn log_refused(f: Flaw) {
+    let refusal = f.refusal;
+    text(b"log refused ");
+    number(log_record::number(refusal));
+    text(b" at ");
+    number(f.place as u64);
+    text(b"\n");
+}
+
+fn board_refused(x: board::Refusal) {
+    text(b"board refused ");
+    number(board::number(x));
+    text(b"\n");
+}
+
+fn bench(board: &[u8], log: &[u8]) {
+    let read = board::read_board(board);
+    let verdict = read.verdict;
+    let b = read.board;
+    match verdict {
+        Verdict::Accepted => match logbook::check_log(log, 0) {
+            Checked::Records(n) => lines(b, log, n),
+            Checked::Refused(f) => log_refused(f),
+        },
+        Verdict::Refused(x) => board_refused(x),
+    }
+}
+
+fn main() {
+    if os::arg_count() != 3 {
+        text(b"usage: bench BOARD LOG\n");
+        return;
+    }
+    let mut board = [0u8; BOARD_ROOM];
+    let mut log = [0u8; LOG_ROOM];
+    match files::read(1, &mut board) {
+        File::Unread => return,
+        File::Bytes(m) => match files::read(2, &mut log) {
+            File::Unread => return,
+            File::Bytes(n) => bench(&board[..m], &log[..n]),
+        },
+    }
+}
