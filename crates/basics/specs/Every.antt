@@ -2,7 +2,7 @@
 use Prim.Native.Nat.{ℕ, zero, suc, _+_, _<_, _≤_}
 use mathlib.Core.Path.{_≡_, refl, sym, ap, _∙_}
 use mathlib.Core.Bool.{Bool, true, false, _&&_, and-false}
-use mathlib.Core.List.{List, [], _∷_}
+use mathlib.Core.List.{List, [], _∷_, _++_}
 use lib.Dec.{eqb, ltb}
 use borrow.Author.Tests.{eqb-true, ltb-true}
 use native.Mathlib.Numerals.{add-one}
@@ -77,3 +77,9 @@ one-under n m (k ∷ ks) =
 unfoldable pub allHold : List Bool → Bool
 allHold [] = true
 allHold (b ∷ bs) = b && allHold bs
+
+-- and so do two lists as one
+pub hold-both : (bs cs : List Bool) → allHold bs ≡ true → allHold cs ≡ true → allHold (bs ++ cs) ≡ true
+unfolding allHold
+hold-both [] cs p q = q
+hold-both (b ∷ bs) cs p q = rw (and-left b (allHold bs) p, hold-both bs cs (and-right b (allHold bs) p) q)
