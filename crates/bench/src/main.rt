@@ -3,8 +3,10 @@ mod files;
 mod words;
 
 ghost use mathlib.Core.Path.{_≡_};
+ghost use Rattle.board.specs.Packed.{readOf};
+ghost use Rattle.board.specs.declared.Verdict.the-variants as verdict;
 ghost use Rattle.logbook.specs.Log.{checkedOf};
-ghost use Rattle.logbook.specs.declared.Checked.the-variants.{Records};
+ghost use Rattle.logbook.specs.declared.Checked.the-variants.{Records, Refused};
 ghost use Rattle.trace.specs.Turn.{turnAt};
 use board::Board;
 use board::MOST_BYTES;
@@ -44,8 +46,8 @@ fn line(b: Board, log: &[u8], k: usize, t: Turn)
 }
 
 // The lines of a log of n records, each taken once through both.
-fn lines(b: Board, log: &[u8], n: usize)
-    requires { ⌜ checkedOf (now log) 0 ≡ Records n ⌝ }
+fn lines(board: &[u8], b: Board, log: &[u8], n: usize)
+    requires { ⌜ (b ≡ readOf (now board) .board) × (checkedOf (now log) 0 ≡ Records n) ⌝ }
 {
     text(b"place outcome word6 agent reader\n");
     let mut rec = board_record::fresh(b);
@@ -61,7 +63,10 @@ fn lines(b: Board, log: &[u8], n: usize)
     }
 }
 
-fn log_refused(f: Flaw) {
+// The line of a log that is refused.
+fn log_refused(log: &[u8], f: Flaw)
+    requires { ⌜ checkedOf (now log) 0 ≡ Refused f ⌝ }
+{
     let refusal = f.refusal;
     text(b"log refused ");
     number(log_record::number(refusal));
@@ -70,7 +75,10 @@ fn log_refused(f: Flaw) {
     text(b"\n");
 }
 
-fn board_refused(x: board::Refusal) {
+// The line of a board that is refused.
+fn board_refused(board: &[u8], x: board::Refusal)
+    requires { ⌜ readOf (now board) .verdict ≡ verdict.Refused x ⌝ }
+{
     text(b"board refused ");
     number(board::number(x));
     text(b"\n");
@@ -82,10 +90,10 @@ fn bench(board: &[u8], log: &[u8]) {
     let b = read.board;
     match verdict {
         Verdict::Accepted => match logbook::check_log(log, 0) {
-            Checked::Records(n) => lines(b, log, n),
-            Checked::Refused(f) => log_refused(f),
+            Checked::Records(n) => lines(board, b, log, n),
+            Checked::Refused(f) => log_refused(log, f),
         },
-        Verdict::Refused(x) => board_refused(x),
+        Verdict::Refused(x) => board_refused(board, x),
     }
 }
 

@@ -3,6 +3,7 @@ pub mod Agreed
 pub mod Taken
 pub mod Runs
 pub mod Turns
+pub mod OwnLog
 pub mod Steady
 pub mod Demand
 pub mod Pinned

@@ -1,5 +1,6 @@
-use mathlib.Core.Path.{sym, _∙_}
+use mathlib.Core.Path.{sym, ap, _∙_}
 use borrow.Author.Needs.{needs}
+use Rattle.board.specs.declared.ReadBoard.{ReadBoard}
 use Rattle.bench.proofs.bench.Statement.{statement}
 use Rattle.bench.proofs.bench.Tie as tie
 
@@ -16,19 +17,24 @@ enum-known-n : tie.Need-enum-known-n
 enum-known-n c = search needs
 
 lines-requires : tie.Need-lines-requires
-lines-requires c κs = let n = c .before in sym (n .before .before .check-log .ensures) ∙ n .n .given .1
+lines-requires c κs =
+    let n = c .before in
+    let k = n .before .before in
+    (ap (λ (r : ReadBoard). r .board) (k .before .before .before .before .read-board .ensures .0), sym (k .check-log .ensures) ∙ n .n .given .1)
 
 enum-known-f : tie.Need-enum-known-f
 enum-known-f c = search needs
 
 log-refused-requires : tie.Need-log-refused-requires
-log-refused-requires c κs = search needs
+log-refused-requires c κs = let f = c .before in sym (f .before .before .check-log .ensures) ∙ f .f .given .1
 
 enum-known-verdict : tie.Need-enum-known-verdict
 enum-known-verdict c = search needs
 
 board-refused-requires : tie.Need-board-refused-requires
-board-refused-requires c κs = search needs
+board-refused-requires c κs =
+    let v = c .before in
+    sym (ap (λ (r : ReadBoard). r .verdict) (v .before .before .before .read-board .ensures .0)) ∙ v .verdict .given .1
 
 returns : tie.Need-returns
 returns c = search needs
