@@ -1,7 +1,7 @@
 -- What a well-formed record tells, fact by fact, and how it is shown. Assumes nothing.
 use Prim.Native.Nat.{ℕ}
 use mathlib.Core.Path.{_≡_}
-use mathlib.Core.Bool.{Bool, true, not, _&&_}
+use mathlib.Core.Bool.{true, not}
 use lib.Dec.{eqb}
 use lib.ListN.{length, replicate, getD-replicate}
 use Rattle.basics.specs.Choice.{not-both, and-left, and-right, both}
