@@ -20,7 +20,7 @@ use Rattle.board.specs.declared.Board.{Board}
 use Rattle.board.specs.declared.Component.{Component}
 use Rattle.board.proofs.Laws.{stands-counted}
 use Rattle.board_record.proofs.Laws.{room-most}
-use Rattle.board_record.specs.Record.{subjectOf, isAbout, holdingOf, skipsRendezvous, isAlone, isPending, versionOf}
+use Rattle.board_record.specs.Record.{subjectOf, isAbout, holdingOf, skipsRendezvous, isPending, versionOf}
 use Rattle.board_record.specs.WellFormed.{poweredStand, imageStands, imageAt, imagesStand, subjectStands, standsBy, stateStands, heldStand, keepsEntries, keepersOf, entryStands, entryAt, entriesStand, wellFormed}
 use Rattle.board_record.proofs.Clauses.{WellFormed, Sized, told, shown, powered-within, on-set, held-on, held-none, entries-zero}
 use Rattle.board_record.specs.declared.Record.{Record}
@@ -38,11 +38,10 @@ use Rattle.rules.specs.declared.Image.{Image}
 use Rattle.rules.specs.Calls.{arrivalOf, entryRight}
 use Rattle.rules.specs.declared.Report.{Report}
 use Rattle.rules.specs.declared.Waking.{Waking}
-use Rattle.rules.specs.Reports.{activateAllows}
 use Rattle.rules.proofs.Guards.{Gatherable, Loose, Primes, Skips, Joins, TurnsOff, TurnsOn, EndsPrime, EndsActivate, NotesImage, Facts, facts, decide-guard}
-use Rattle.rules.proofs.States.{prime-rests, skip-rests, gather-subject, priming-subject, activating-subject}
+use Rattle.rules.proofs.States.{prime-rests, skip-rests, gather-subject, priming-subject, activating-subject, again-alone}
 use Rattle.agent.specs.Perform.{refusedOf, acceptedOf, informedOf, joinedOf, settledOf, poweredOf, afterPrime, afterActivate, isDone, imagedOf, forgottenOf, endedOf, performOf}
-use Rattle.agent.specs.Step.{stepOf, after}
+use Rattle.agent.specs.Step.{stepOf, stepped, after}
 
 -- ---- the one that is held alone
 one-held : (on : CpuSet) (i : ℕ) → Set on → hasOf on i ≡ true → withinOf noneOf on ≡ true
@@ -318,12 +317,9 @@ module _ (r : Record) (w : WellFormed r) (z : Sized r) where
 
   -- only an optional component is called again
   again-optional : (e : Event) (p : Report) → EndsActivate r e p → p .code ≡ 1 → numberedOf (r .board) (p .component) .optional ≡ true
-  unfolding activateAllows
   again-optional e p g q =
-      let c = numberedOf (r .board) (p .component) in
-      let is = activating-subject (r .state) (p .component) (g .running) in
-      let alone : isAlone (r .state) ≡ true = sym (ap (activateAllows (isAlone (r .state)) (c .«may_reset»)) q) ∙ g .allowed in
-      subject-optional c (skipsRendezvous (r .state)) _ _ (mine (p .component) (is .0)) (is .1 ∙ alone)
+      subject-optional (numberedOf (r .board) (p .component)) (skipsRendezvous (r .state)) _ _
+      (mine (p .component) (activating-subject (r .state) (p .component) (g .running) .0)) (again-alone r e p g q)
 
   -- an activation ended: the state
   ended-state : (e : Event) (p : Report) → EndsActivate r e p → WellFormed (settledOf r (afterActivate p))
@@ -450,3 +446,28 @@ step-kept r e entries contexts w z =
 pub after-kept : (es : List Event) (r : Record) → wellFormed r ≡ true → Sized r → (wellFormed (after r es) ≡ true) × Sized (after r es)
 after-kept [] r w z = (w, z)
 after-kept (e ∷ es) r w z = let k = step-kept r e mostCpus mostCpus w z in after-kept es (stepOf r e mostCpus mostCpus .rec) (k .0) (k .1)
+
+-- ---- and no event changes the board
+performed-board : (r : Record) (m : Move) → performOf r m .rec .board ≡ r .board
+unfolding refusedOf acceptedOf informedOf imagedOf joinedOf settledOf poweredOf endedOf
+performed-board r (move.Refuse x) = refl
+performed-board r (move.Return x) = refl
+performed-board r move.NoteInfo = refl
+performed-board r (move.StartPrime a) = refl
+performed-board r (move.Gather a) = refl
+performed-board r (move.StartTogether a) = refl
+performed-board r (move.StartAlone a) = refl
+performed-board r move.ToIdle = refl
+performed-board r (move.PowerOff cpu) = refl
+performed-board r (move.PowerOn x) = refl
+performed-board r (move.EndPrime p) = refl
+performed-board r (move.EndActivate p) = pick-cases (λ (n : Record). n .board ≡ r .board) (isDone (p .code)) _ _ (λ t. refl) (λ t. refl)
+performed-board r (move.NoteImage i) = refl
+
+pub step-board : (r : Record) (e : Event) → stepped r e .rec .board ≡ r .board
+unfolding stepOf
+step-board r e = performed-board r (decideOf r e mostCpus mostCpus)
+
+pub after-board : (es : List Event) (r : Record) → after r es .board ≡ r .board
+after-board [] r = refl
+after-board (e ∷ es) r = after-board es (stepped r e .rec) ∙ step-board r e

@@ -1,17 +1,21 @@
--- A refused event changes nothing, and refusal 9 comes only to a record that is not well formed. Assumes nothing.
-use Prim.Native.Nat.{ℕ}
+-- A refused event changes nothing, refusal 9 comes only to a record that is not well formed, and refusal 1 only for short
+-- tables. Assumes nothing.
+use Prim.Native.Nat.{ℕ, _≤_}
 use mathlib.Core.Path.{_≡_, refl, ap, subst}
 use mathlib.Core.Bool.{true}
 use mathlib.Core.List.{List}
 use native.Mathlib.Omega.{arith}
 use lib.ListN.{length}
+use borrow.Author.Tests.{le-ltb}
 use Rattle.basics.specs.Choice.{not-both}
 use Rattle.cpuset.specs.Laws.{has-none}
 use Rattle.board.specs.Description.{mostCpus}
 use Rattle.board.specs.Packed.{boardStands}
 use Rattle.board.specs.declared.Board.{Board}
+use Rattle.board.proofs.Laws.{stands-counted}
 use Rattle.board_record.specs.Record.{freshOf}
 use Rattle.board_record.specs.WellFormed.{wellFormed}
+use Rattle.board_record.proofs.Clauses.{told}
 use Rattle.board_record.proofs.Laws.{fresh-stands, fresh-sized}
 use Rattle.board_record.specs.declared.Record.{Record}
 use Rattle.rules.specs.Decide.{decideOf}
@@ -22,7 +26,7 @@ use Rattle.rules.specs.declared.Refusal.{Refusal}
 use Rattle.rules.specs.declared.Refusal.the-variants.{NotWellFormed}
 use Rattle.rules.proofs.Guards.{Guard, facts, decide-guard}
 use Rattle.agent.specs.Perform.{refusedOf, acceptedOf, performOf}
-use Rattle.agent.specs.Step.{stepOf, resumingOf, filled, entriesOf, contextsOf, after}
+use Rattle.agent.specs.Step.{stepOf, stepped, resumingOf, filled, entriesOf, contextsOf, after}
 use Rattle.agent.specs.declared.Answer.{Answer}
 use Rattle.agent.specs.declared.Outcome.{Outcome}
 use Rattle.agent.specs.declared.Outcome.the-variants.{Refused, Accepted}
@@ -77,3 +81,11 @@ never-nine r e entries contexts w h =
 pub fresh-never-nine : (b : Board) → boardStands b ≡ true → (es : List Event) (e : Event)
     → stepOf (after (freshOf b) es) e mostCpus mostCpus .outcome ≡ Refused NotWellFormed → ⊥
 fresh-never-nine b s es e = never-nine (after (freshOf b) es) e mostCpus mostCpus (after-kept es (freshOf b) (fresh-stands b s) (fresh-sized b) .0)
+
+-- how long the tables are matters only up to the CPU count
+pub step-tables : (r : Record) (e : Event) (entries contexts : ℕ) → wellFormed r ≡ true → r .board .cpus ≤ entries → r .board .cpus ≤ contexts
+    → stepOf r e entries contexts ≡ stepped r e
+unfolding stepOf decideOf
+step-tables r e entries contexts w h k =
+    let few = stands-counted (r .board) (told r w .board) .fewCpus in
+    rw (w, le-ltb entries (r .board .cpus) h, le-ltb contexts (r .board .cpus) k, le-ltb mostCpus (r .board .cpus) few)

@@ -81,7 +81,11 @@ contextsOf r e entries contexts =
     let m = decideOf r e (length entries) (length contexts) in
     filled (resumingOf (performOf r m .outcome)) (contextsFrom r (sourceOf m)) contexts
 
--- the record after some events, each accepted or not, with tables that are long enough
+-- one event with tables that are long enough; all such tables give the same (`step-tables`, proofs/Refused.antt)
+abbrev pub stepped : Record → Event → Stepped
+stepped r e = stepOf r e mostCpus mostCpus
+
+-- the record after some events, each accepted or not
 abbrev pub after : Record → List Event → Record
 after r [] = r
-after r (e ∷ es) = after (stepOf r e mostCpus mostCpus .rec) es
+after r (e ∷ es) = after (stepped r e .rec) es

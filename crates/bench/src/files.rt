@@ -21,7 +21,8 @@ fn say_unread(name: &[u8]) {
     text(b"\n");
 }
 
-// Puts the name that argument i gives in a buffer, and answers how much of it there is: all that fits where it is too long.
+// Puts the name that argument i gives in a buffer, and answers how much of it there is: all that fits where it is too long,
+// which is no path to `os`.
 fn name(i: usize, path: &mut [u8]) -> usize
     ensures { λ n. ⌜ Counts n (now (path .exit)) ⌝ }
 {

@@ -72,6 +72,16 @@ isGathering (Alone c) = false
 isGathering (HalfActivated c) = false
 isGathering Dead = false
 
+-- CPUs are held for a rendezvous: some of the powered ones, or all
+abbrev pub isMet : Holding → Bool
+isMet Nobody = false
+isMet One = false
+isMet Part = true
+isMet All = true
+
+abbrev pub isRendezvous : State → Bool
+isRendezvous s = isMet (holdingOf s)
+
 -- an activation without rendezvous is running
 abbrev pub isAlone : State → Bool
 isAlone Idle = false

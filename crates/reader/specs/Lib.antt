@@ -1,4 +1,5 @@
 pub mod Story
 pub mod Starts
 pub mod Phrases
+pub mod Telling
 pub mod Examples

@@ -5,7 +5,8 @@ use board::Board;
 use codes::ACTIVATE;
 use codes::Call;
 ghost use mathlib.Core.Path.{_≡_};
-ghost use Rattle.reader.specs.Starts.{isActivate, acceptedFrom, fieldsValid, allGathered, startsFor};
+ghost use mathlib.Core.Bool.{not, _&&_};
+ghost use Rattle.reader.specs.Starts.{isActivate, acceptedFrom, fieldsValid, othersGathered, startsFor};
 
 fn is_activate(call: Call) -> bool
     ensures { λ b. ⌜ b ≡ isActivate call ⌝ }
@@ -47,7 +48,7 @@ fn fields_valid(b: Board, call: Call, c: u64) -> bool
 
 // No activation without rendezvous began, and every other powered CPU became held since.
 fn all_gathered(s: Story, cpu: u64) -> bool
-    ensures { λ r. ⌜ r ≡ allGathered s cpu ⌝ }
+    ensures { λ r. ⌜ r ≡ (not (s .alone) && othersGathered s cpu) ⌝ }
 {
     if s.alone {
         return false;

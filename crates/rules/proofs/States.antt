@@ -1,16 +1,20 @@
 -- What the states of the guards are: whom they hold, and what they are about. Assumes nothing.
 use Prim.Native.Nat.{ℕ}
-use mathlib.Core.Path.{_≡_, refl, ap}
+use mathlib.Core.Path.{_≡_, refl, sym, ap, _∙_}
 use mathlib.Core.Bool.{true}
 use borrow.Author.Tests.{eqb-true}
 use Rattle.basics.specs.Choice.{not-both}
+use Rattle.board.specs.Description.{mayReset}
 use Rattle.board_record.specs.Record.{subjectOf, holdingOf, skipsRendezvous, isAlone}
 use Rattle.board_record.specs.declared.Holding.the-variants.{Nobody}
+use Rattle.board_record.specs.declared.Record.{Record}
 use Rattle.board_record.specs.declared.State.{State}
 use Rattle.board_record.specs.declared.State.the-variants.{Idle, Preparing, HalfPrepared, Ready, Gathering, Together, Alone, HalfActivated, Dead}
 use Rattle.board_record.specs.declared.Subject.the-variants as subject
-use Rattle.rules.specs.Reports.{isPriming, isActivating}
-use Rattle.rules.proofs.Guards.{Primable, Skippable, Gatherable}
+use Rattle.rules.specs.Reports.{isPriming, isActivating, activateAllows}
+use Rattle.rules.specs.declared.Event.{Event}
+use Rattle.rules.specs.declared.Report.{Report}
+use Rattle.rules.proofs.Guards.{Primable, Skippable, Gatherable, EndsActivate}
 
 pub prime-rests : (s : State) (id : ℕ) → Primable s id → holdingOf s ≡ Nobody
 prime-rests Idle id p = refl
@@ -66,3 +70,10 @@ activating-subject (Together c) id p = (ap subject.Of (eqb-true c id p), refl)
 activating-subject (Alone c) id p = (ap subject.Of (eqb-true c id p), refl)
 activating-subject (HalfActivated c) id p = absurd (not-both p refl)
 activating-subject Dead id p = absurd (not-both p refl)
+
+-- only an activation without rendezvous is called again
+pub again-alone : (r : Record) (e : Event) (p : Report) → EndsActivate r e p → p .code ≡ 1 → skipsRendezvous (r .state) ≡ true
+unfolding activateAllows
+again-alone r e p g q =
+    activating-subject (r .state) (p .component) (g .running) .1
+    ∙ sym (ap (activateAllows (isAlone (r .state)) (mayReset (r .board) (p .component))) q) ∙ g .allowed

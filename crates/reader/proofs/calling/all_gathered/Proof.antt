@@ -1,10 +1,10 @@
-use Rattle.reader.specs.Starts.{allGathered}
+use Rattle.reader.specs.Starts.{othersGathered}
 use borrow.Author.Needs.{needs}
 use Rattle.reader.proofs.calling.all_gathered.Statement.{statement}
 use Rattle.reader.proofs.calling.all_gathered.Tie as tie
 
 returns : tie.Need-returns
-unfolding allGathered
+unfolding othersGathered
 returns c = rw (c .if1 .taken)
 
 without-requires : tie.Need-without-requires
@@ -17,7 +17,7 @@ within-requires : tie.Need-within-requires
 within-requires c κs = search needs
 
 returns-2 : tie.Need-returns-2
-unfolding allGathered
+unfolding othersGathered
 returns-2 c =
     let w = c .before .before in
     rw (w .before .before .if1 .left, c .within .ensures, w .without .ensures, c .before .every-held .ensures)
