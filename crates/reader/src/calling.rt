@@ -33,6 +33,9 @@ fn accepted_from(b: Board, s: Story, cpu: u64) -> bool
 fn fields_valid(b: Board, call: Call, c: u64) -> bool
     ensures { λ r. ⌜ r ≡ fieldsValid b call c ⌝ }
 {
+    if c >= b.components {
+        return false;
+    }
     if call.x1 != c {
         return false;
     }
