@@ -2,7 +2,7 @@
 use Prim.Native.Nat.{ℕ, _<_}
 use mathlib.Core.Path.{_≡_, refl, sym, ap, subst, _∙_}
 use mathlib.Core.Bool.{Bool, true, false, _&&_}
-use mathlib.Core.List.{List, [], _∷_}
+use mathlib.Core.List.{List, [], _∷_, _++_}
 use native.Mathlib.Omega.{arith}
 use lib.Dec.{eqb, leb}
 use lib.ListN.{length, set, length-set}
@@ -471,3 +471,8 @@ step-board r e = performed-board r (decideOf r e mostCpus mostCpus)
 pub after-board : (es : List Event) (r : Record) → after r es .board ≡ r .board
 after-board [] r = refl
 after-board (e ∷ es) r = after-board es (stepped r e .rec) ∙ step-board r e
+
+-- ---- some events, and then more
+pub after-append : (es more : List Event) (r : Record) → after r (es ++ more) ≡ after (after r es) more
+after-append [] more r = refl
+after-append (e ∷ es) more r = after-append es more (stepped r e .rec)
