@@ -49,7 +49,7 @@ fn fields_valid(b: Board, call: Call, c: u64) -> bool
     }
 }
 
-// No activation without rendezvous began, and every other powered CPU became held since.
+// No activation without rendezvous began, and every other powered CPU became held in that time.
 fn all_gathered(s: Story, cpu: u64) -> bool
     ensures { λ r. ⌜ r ≡ (not (s .alone) && othersGathered s cpu) ⌝ }
 {
@@ -61,6 +61,7 @@ fn all_gathered(s: Story, cpu: u64) -> bool
     cpuset::within(others, telling::every_held(gathered))
 }
 
+// All that demand 3 asks for but that component c is prepared.
 pub(crate) fn starts_for(b: Board, s: Story, call: Call, c: u64) -> bool
     ensures { λ r. ⌜ r ≡ startsFor b s call c ⌝ }
 {
