@@ -445,7 +445,7 @@ step-kept r e entries contexts w z =
 -- and so do any events
 pub after-kept : (es : List Event) (r : Record) → wellFormed r ≡ true → Sized r → (wellFormed (after r es) ≡ true) × Sized (after r es)
 after-kept [] r w z = (w, z)
-after-kept (e ∷ es) r w z = let k = step-kept r e mostCpus mostCpus w z in after-kept es (stepOf r e mostCpus mostCpus .rec) (k .0) (k .1)
+after-kept (e ∷ es) r w z = let k = step-kept r e mostCpus mostCpus w z in after-kept es (stepped r e .rec) (k .0) (k .1)
 
 -- ---- and no event changes the board
 performed-board : (r : Record) (m : Move) → performOf r m .rec .board ≡ r .board

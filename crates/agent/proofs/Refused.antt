@@ -1,5 +1,5 @@
--- A refused event changes nothing, refusal 9 comes only to a record that is not well formed, and refusal 1 only for short
--- tables. Assumes nothing.
+-- A refused event changes nothing, refusal 9 comes only to a record that is not well formed, and how long the tables are
+-- matters only up to the CPU count. Assumes nothing.
 use Prim.Native.Nat.{ℕ, _≤_}
 use mathlib.Core.Path.{_≡_, refl, ap, subst}
 use mathlib.Core.Bool.{true}
@@ -79,7 +79,7 @@ never-nine r e entries contexts w h =
 
 -- so it never comes to a board that started fresh, whatever happens
 pub fresh-never-nine : (b : Board) → boardStands b ≡ true → (es : List Event) (e : Event)
-    → stepOf (after (freshOf b) es) e mostCpus mostCpus .outcome ≡ Refused NotWellFormed → ⊥
+    → stepped (after (freshOf b) es) e .outcome ≡ Refused NotWellFormed → ⊥
 fresh-never-nine b s es e = never-nine (after (freshOf b) es) e mostCpus mostCpus (after-kept es (freshOf b) (fresh-stands b s) (fresh-sized b) .0)
 
 -- how long the tables are matters only up to the CPU count

@@ -13,7 +13,7 @@ use Rattle.codes.specs.Codes.{isPrimeCode, isActivateCode}
 use Rattle.cpuset.specs.Bit.{bit}
 use Rattle.cpuset.specs.Tally.{tally}
 use Rattle.cpuset.specs.Set.{room, hasOf, noneOf, onlyOf, unionOf, lessOf, belowOf, sameOf, countOf}
-use Rattle.board.specs.Description.{mostCpus, blank, numberedOf, isCapable, goodEntry, withinLimit, judgedOf}
+use Rattle.board.specs.Description.{blank, numberedOf, isCapable, goodEntry, withinLimit, judgedOf}
 use Rattle.board.specs.Packed.{writableOf, boardStands}
 use Rattle.board.specs.declared.Board.{Board}
 use Rattle.board.specs.declared.Component.{Component}
@@ -27,7 +27,7 @@ use Rattle.rules.specs.Decide.{decideOf}
 use Rattle.rules.specs.declared.Event.{Event}
 use Rattle.rules.specs.declared.Event.the-variants as event
 use Rattle.agent.specs.Perform.{refusedOf, acceptedOf, informedOf, joinedOf, settledOf, poweredOf, reportedOf, afterPrime, afterActivate, imagedOf, isDone, endedOf, releasedOf}
-use Rattle.agent.specs.Step.{stepOf, after}
+use Rattle.agent.specs.Step.{stepOf, stepped, after}
 use Rattle.agent.specs.declared.Caller.{Caller}
 use Rattle.agent.specs.declared.Caller.the-variants as caller
 use Rattle.agent.specs.declared.Outcome.{Outcome}
@@ -96,7 +96,7 @@ same (x ∷ xs) (y ∷ ys) = eqb x y && same xs ys
 
 -- what a fresh board answers to an event after others
 abbrev answer : List Event → Event → List ℕ
-answer es e = answered (stepOf (after (freshOf board) es) e mostCpus mostCpus .outcome)
+answer es e = answered (stepped (after (freshOf board) es) e .outcome)
 
 abbrev says : List Event → Event → ℕ → Bool
 says es e x0 = same (answer es e) (1 ∷ x0 ∷ [])
@@ -125,7 +125,7 @@ examples =
     ∷ says [] (call 0 featuresNumber offNumber 0 0 0) (2 ^ 64 - 1)
     ∷ says [] (call 0 versionNumber 0 0 0 0) 65536
     -- P UUID bytes 00..0f: X1 = 0x0706050403020100
-    ∷ eqb (x1Of (stepOf (after (freshOf board) (info ∷ [])) (call 0 inventoryNumber 0 0 0 0) mostCpus mostCpus .outcome)) 0x0706050403020100
+    ∷ eqb (x1Of (stepped (after (freshOf board) (info ∷ [])) (call 0 inventoryNumber 0 0 0 0) .outcome)) 0x0706050403020100
     -- P inventory before GET_INFO, id too large: -7; after it: -8
     ∷ says [] (call 0 inventoryNumber 99 0 0 0) (2 ^ 64 - 7)
     ∷ says (info ∷ []) (call 0 inventoryNumber 99 0 0 0) (2 ^ 64 - 8)

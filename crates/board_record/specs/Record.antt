@@ -73,14 +73,14 @@ isGathering (HalfActivated c) = false
 isGathering Dead = false
 
 -- CPUs are held for a rendezvous: some of the powered ones, or all
-abbrev pub isMet : Holding → Bool
-isMet Nobody = false
-isMet One = false
-isMet Part = true
-isMet All = true
+abbrev pub forRendezvous : Holding → Bool
+forRendezvous Nobody = false
+forRendezvous One = false
+forRendezvous Part = true
+forRendezvous All = true
 
 abbrev pub isRendezvous : State → Bool
-isRendezvous s = isMet (holdingOf s)
+isRendezvous s = forRendezvous (holdingOf s)
 
 -- an activation without rendezvous is running
 abbrev pub isAlone : State → Bool
