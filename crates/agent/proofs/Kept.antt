@@ -464,13 +464,13 @@ performed-board r (move.EndPrime p) = refl
 performed-board r (move.EndActivate p) = pick-cases (λ (n : Record). n .board ≡ r .board) (isDone (p .code)) _ _ (λ t. refl) (λ t. refl)
 performed-board r (move.NoteImage i) = refl
 
-pub step-board : (r : Record) (e : Event) → stepped r e .rec .board ≡ r .board
+pub step-board : (r : Record) (e : Event) (entries contexts : ℕ) → stepOf r e entries contexts .rec .board ≡ r .board
 unfolding stepOf
-step-board r e = performed-board r (decideOf r e mostCpus mostCpus)
+step-board r e entries contexts = performed-board r (decideOf r e entries contexts)
 
 pub after-board : (es : List Event) (r : Record) → after r es .board ≡ r .board
 after-board [] r = refl
-after-board (e ∷ es) r = after-board es (stepped r e .rec) ∙ step-board r e
+after-board (e ∷ es) r = after-board es (stepped r e .rec) ∙ step-board r e mostCpus mostCpus
 
 -- ---- some events, and then more
 pub after-append : (es more : List Event) (r : Record) → after r (es ++ more) ≡ after (after r es) more

@@ -92,10 +92,6 @@ fn places(length: usize) -> usize
 pub(crate) fn fill(cpus: CpuSet, from: [u64; board::MOST_CPUS], table: &mut [u64])
     ensures { λ _. ⌜ now (table .exit) ≡ filled cpus from (now (table .entry)) ⌝ }
 {
-    // most events resume nobody
-    if cpuset::is_none(cpus) {
-        return;
-    }
     let n = places(table.len());
     let mut i: usize = 0;
     while i < n {

@@ -5,7 +5,7 @@ use mathlib.Core.List.{List, [], _∷_, _++_, append-assoc, append-nil}
 use native.Mathlib.Omega.{arith}
 use native.Mathlib.Numerals.{add-one}
 use native.Mathlib.Nat.{mul-suc}
-use lib.ListN.{length, getD, take, drop, set, replicate, length-append, length-drop, getD-replicate, List·getD-append}
+use lib.ListN.{length, getD, take, drop, set, replicate, length-append, length-drop, length-replicate, getD-replicate, List·getD-append}
 use lib.Seq.{set-at, getD-at, take-suc, getD-drop, getD-append-add, take-add, drop-drop}
 use Rattle.basics.specs.Order.{last-cases}
 
@@ -49,6 +49,9 @@ module _ {A : Type 0} (f : ℕ → A) where
   -- and the last turn filled the table
   pub table-full : (m : ℕ) (z : A) → table m z m f ≡ firsts m f
   table-full m z = let e : m - m ≡ 0 = omega arith in rw (e, append-nil)
+
+  pub length-table : (m : ℕ) (z : A) (n : ℕ) → n ≤ m → length (table m z n f) ≡ m
+  length-table m z n h = omega (arith, length-append (firsts n f) (replicate (m - n) z), length-firsts n, length-replicate (m - n) z)
 
   pub getD-table : (m : ℕ) (z : A) (n i : ℕ) (d : A) → i < n → getD (table m z n f) i d ≡ f i
   getD-table m z n i d l =

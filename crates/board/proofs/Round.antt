@@ -11,7 +11,7 @@ use lib.Seq.{take-all, take-add, drop-drop, getD-drop}
 use borrow.Author.Tests.{eqb-true, eqb-false, eq-eqb, le-leb}
 use Rattle.basics.specs.Choice.{yes, and-left, and-right}
 use Rattle.basics.specs.Every.{allBelow, all-of, all-at, all-same}
-use Rattle.basics.specs.Places.{firsts, inTurn, length-inTurn, inTurn-same, inTurn-parts, firsts-same, firsts-part, getD-table, getD-past, length-firsts}
+use Rattle.basics.specs.Places.{firsts, length-table, inTurn, length-inTurn, inTurn-same, inTurn-parts, firsts-same, firsts-part, getD-table, getD-past, length-firsts}
 use Rattle.bitfield.specs.Bits.{AreBytes, valueAt, bytes}
 use Rattle.bitfield.specs.Layout.{fields, fieldOf, join, Fit}
 use Rattle.bitfield.proofs.Laws.{length-bytes, value-lt, value-byte, firsts-bytes}
@@ -323,3 +323,9 @@ read-blank s =
 pub read-stands : (s : List ℕ) (b : Board) → readOf s ≡ accepted b → boardStands b ≡ true
 unfolding boardStands
 read-stands s b e = rw (read-writable s b e .1, ← read-inv s b e .says) (read-blank s)
+
+-- and its table has all its places
+pub read-long : (s : List ℕ) (b : Board) → readOf s ≡ accepted b → length (b .component) ≡ mostComponents
+unfolding boardAt
+read-long s b e =
+    rw (← read-inv s b e .says) (length-table (λ i. componentAt s (startOf i)) mostComponents blank (componentsIn s) (read-counted s .fewComponents))

@@ -43,8 +43,11 @@ unfoldable pub numberedOf : Board → ℕ → Component
 numberedOf b i = pick (ltb i mostComponents) (componentOf b i) blank
 
 -- the board has component id, and it is capable
+abbrev pub capableAt : ℕ → ℕ → Component → Bool
+capableAt components id c = ltb id components && c .capable
+
 unfoldable pub isCapable : Board → ℕ → Bool
-isCapable b id = ltb id (b .components) && numberedOf b id .capable
+isCapable b id = capableAt (b .components) id (numberedOf b id)
 
 abbrev pub mayReset : Board → ℕ → Bool
 mayReset b id = numberedOf b id .«may_reset»
@@ -89,8 +92,11 @@ pub record Counted (b : Board) : Type 0 where
   pub fewCpus : b .cpus ≤ mostCpus
 
 -- 24: optional with may_reset, at place i and at every place
+abbrev pub partedOf : Component → Bool
+partedOf c = not (c .optional && c .«may_reset»)
+
 abbrev pub parted : List Component → ℕ → Bool
-parted cs i = not (getD cs i absent .optional && getD cs i absent .«may_reset»)
+parted cs i = partedOf (getD cs i absent)
 
 abbrev pub apart : Board → Bool
 apart b = allBelow (b .components) (parted (b .component))

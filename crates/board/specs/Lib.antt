@@ -1,3 +1,4 @@
 pub mod Description
 pub mod Packed
+pub mod Marks
 pub mod Examples

@@ -8,8 +8,12 @@ use crate::UUID_BYTES;
 use crate::Verdict;
 ghost use mathlib.Core.Path.{_≡_};
 ghost use Prim.Native.Nat.{_<_, _≤_};
-ghost use Rattle.board.specs.Description.{mostComponents, withinLimit, countsOf, parted, unseen, apart, distinct, sameUuid, judgedOf, isBlank, blankPast};
+ghost use Rattle.board.specs.Description.{mostComponents, withinLimit, countsOf, partedOf, unseen, apart, distinct, sameUuid, judgedOf, isBlank, blankPast};
 ghost use Rattle.board.specs.Packed.{writableOf, isWritable};
+ghost use Rattle.board.specs.Marks.{markOf};
+
+// How many marks there are.
+const MARKS: usize = 1024;
 
 fn same_uuid(u: [u8; UUID_BYTES], v: [u8; UUID_BYTES]) -> bool
     ensures { λ r. ⌜ r ≡ sameUuid u v ⌝ }
@@ -43,28 +47,48 @@ fn is_unseen(b: Board, i: usize) -> bool
     true
 }
 
+// A mark of a UUID: the same UUID has the same mark, so only those whose mark was met are compared.
+fn mark(uuid: [u8; UUID_BYTES]) -> usize
+    ensures { λ r. ⌜ r ≡ markOf uuid ⌝ }
+{
+    let mut m: usize = 0;
+    let mut k: usize = 0;
+    while k < UUID_BYTES {
+        m += uuid[k] as usize;
+        k += 1;
+    }
+    m % MARKS
+}
+
 fn is_distinct(b: Board) -> bool
     requires { ⌜ b .components ≤ mostComponents ⌝ }
     ensures { λ r. ⌜ r ≡ distinct b ⌝ }
 {
     let n = b.components as usize;
+    let mut met = [false; MARKS];
     let mut i: usize = 0;
     while i < n {
-        if is_unseen(b, i) {
-            i += 1;
+        let c = b.component[i];
+        let uuid = c.uuid;
+        let m = mark(uuid);
+        if met[m] {
+            if is_unseen(b, i) {
+                i += 1;
+            } else {
+                return false;
+            }
         } else {
-            return false;
+            met[m] = true;
+            i += 1;
         }
     }
     true
 }
 
-// The component at place i is not both optional and may_reset.
-fn is_parted(b: Board, i: usize) -> bool
-    requires { ⌜ i < mostComponents ⌝ }
-    ensures { λ r. ⌜ r ≡ parted (b .component) i ⌝ }
+// The component is not both optional and may_reset.
+fn is_parted(c: Component) -> bool
+    ensures { λ r. ⌜ r ≡ partedOf c ⌝ }
 {
-    let c = b.component[i];
     if c.optional { !c.may_reset } else { true }
 }
 
@@ -75,7 +99,7 @@ fn is_apart(b: Board) -> bool
     let n = b.components as usize;
     let mut i: usize = 0;
     while i < n {
-        if is_parted(b, i) {
+        if is_parted(b.component[i]) {
             i += 1;
         } else {
             return false;

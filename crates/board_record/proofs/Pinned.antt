@@ -10,6 +10,8 @@ use Rattle.board_record.proofs.skips_rendezvous.Kinds as skips-rendezvo
 use Rattle.board_record.proofs.skips_rendezvous.Reads as skips-rendezvous-reads
 use Rattle.board_record.proofs.is_alone.Kinds as is-alone-kinds
 use Rattle.board_record.proofs.is_alone.Reads as is-alone-reads
+use Rattle.board_record.proofs.place_of.Kinds as place-of-kinds
+use Rattle.board_record.proofs.place_of.Reads as place-of-reads
 use Rattle.board_record.proofs.is_for.Kinds as is-for-kinds
 use Rattle.board_record.proofs.is_for.Reads as is-for-reads
 use Rattle.board_record.proofs.is_pending.Kinds as is-pending-kinds
@@ -33,6 +35,9 @@ skips-rendezvous-pinned κs a z z′ ws ws′ p q = just p q
 
 pub is-alone-pinned : OneOutcome 0 is-alone-kinds.ps is-alone-kinds.r is-alone-reads.Post
 is-alone-pinned κs a z z′ ws ws′ p q = just p q
+
+pub place-of-pinned : OneOutcome 0 place-of-kinds.ps place-of-kinds.r place-of-reads.Post
+place-of-pinned κs a z z′ ws ws′ p q = just p q
 
 pub is-for-pinned : OneOutcome 0 is-for-kinds.ps is-for-kinds.r is-for-reads.Post
 is-for-pinned κs a z z′ ws ws′ p q = just p q

@@ -94,6 +94,18 @@ isAlone (Alone c) = true
 isAlone (HalfActivated c) = false
 isAlone Dead = false
 
+-- a state's place in document 01's table of rules, which is also its number for a host
+abbrev pub placeOf : State → ℕ
+placeOf Idle = 0
+placeOf (Preparing c) = 1
+placeOf (HalfPrepared c) = 2
+placeOf (Ready c) = 3
+placeOf (Gathering c) = 4
+placeOf (Together c) = 5
+placeOf (Alone c) = 6
+placeOf (HalfActivated c) = 7
+placeOf Dead = 8
+
 -- whether component id has a pending image, and "each pending image's version (0 where none is pending)"
 abbrev pub isPending : List Bool → ℕ → Bool
 isPending pending id = getD pending id false

@@ -2,7 +2,7 @@
 mod standing;
 
 ghost use mathlib.Core.Path.{_≡_};
-ghost use Rattle.board_record.specs.Record.{subjectOf, holdingOf, isFor, skipsRendezvous, isGathering, isAlone, isPending, versionOf, freshOf};
+ghost use Rattle.board_record.specs.Record.{subjectOf, holdingOf, isFor, skipsRendezvous, isGathering, isAlone, placeOf, isPending, versionOf, freshOf};
 ghost use Rattle.board_record.specs.WellFormed.{wellFormed};
 use board::Board;
 use cpuset::CpuSet;
@@ -147,6 +147,23 @@ pub fn is_alone(s: State) -> bool
         State::Alone(_) => true,
         State::HalfActivated(_) => false,
         State::Dead => false,
+    }
+}
+
+// A state's place in the table of rules, which is also its number for a host.
+pub fn place_of(s: State) -> usize
+    ensures { λ r. ⌜ r ≡ placeOf s ⌝ }
+{
+    match s {
+        State::Idle => 0,
+        State::Preparing(_) => 1,
+        State::HalfPrepared(_) => 2,
+        State::Ready(_) => 3,
+        State::Gathering(_) => 4,
+        State::Together(_) => 5,
+        State::Alone(_) => 6,
+        State::HalfActivated(_) => 7,
+        State::Dead => 8,
     }
 }
 

@@ -7,6 +7,7 @@ use board::Board;
 use board::Component;
 use cpuset::CpuSet;
 ghost use mathlib.Core.Path.{_≡_};
+ghost use Rattle.board.specs.Description.{capableAt};
 ghost use Rattle.board_record.specs.WellFormed.{poweredStand, imageStands, imagesStand, subjectStands, stateStands, heldBy, heldStand, keepsEntries, keepersOf, entryStands, entriesStand, workStands, restStands};
 
 fn is_powered_right(cpus: u64, on: CpuSet) -> bool
@@ -24,6 +25,13 @@ fn is_image_right(capable: bool, pending: bool, version: u32) -> bool
     if pending { capable } else { version == 0 }
 }
 
+// Whether place i of the table is within the count, and holds a capable component.
+fn is_place_capable(c: Component, i: u64, components: u64) -> bool
+    ensures { λ r. ⌜ r ≡ capableAt components i c ⌝ }
+{
+    if i < components { c.capable } else { false }
+}
+
 fn are_images_right(
     b: Board,
     pending: [bool; board::MOST_COMPONENTS],
@@ -33,7 +41,12 @@ fn are_images_right(
 {
     let mut i: usize = 0;
     while i < board::MOST_COMPONENTS {
-        if is_image_right(board::is_capable(b, i as u64), pending[i], version[i]) {
+        let c = b.component[i];
+        if is_image_right(
+            is_place_capable(c, i as u64, b.components),
+            pending[i],
+            version[i],
+        ) {
             i += 1;
         } else {
             return false;
@@ -145,14 +158,14 @@ fn keepers(b: Board, s: State, held: CpuSet) -> CpuSet
     }
 }
 
-fn are_entries_right(
+fn are_entries_right<'a>(
     first: u64,
     last: u64,
     keepers: CpuSet,
-    entry: [u64; board::MOST_CPUS],
-    context: [u64; board::MOST_CPUS],
+    entry: &'a [u64; board::MOST_CPUS],
+    context: &'a [u64; board::MOST_CPUS],
 ) -> bool
-    ensures { λ r. ⌜ r ≡ entriesStand first last keepers entry context ⌝ }
+    ensures { λ r. ⌜ r ≡ entriesStand first last keepers (now (entry .entry)) (now (context .entry)) ⌝ }
 {
     let mut i: usize = 0;
     while i < board::MOST_CPUS {
@@ -179,11 +192,15 @@ fn is_work_right(rec: Record) -> bool
     let s = rec.state;
     let on = rec.on;
     let held = rec.held;
-    let entry = rec.entry;
-    let context = rec.context;
     if is_state_right(rec) {
         if is_held_right(s, on, held) {
-            return are_entries_right(b.first, b.last, keepers(b, s, held), entry, context);
+            return are_entries_right(
+                b.first,
+                b.last,
+                keepers(b, s, held),
+                &rec.entry,
+                &rec.context,
+            );
         }
     }
     false

@@ -6,6 +6,7 @@ ghost use Rattle.cpuset.specs.Set.{noneOf, hasOf, onlyOf, withOf, withou
 const ROOM: u64 = 64;
 
 // Number i is a member where bit i is set.
+#[repr(C)]
 pub struct CpuSet {
     pub bits: u64,
 }

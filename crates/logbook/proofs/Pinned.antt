@@ -8,6 +8,8 @@ use Rattle.logbook.proofs.prepared_at.Kinds as prepared-at-kinds
 use Rattle.logbook.proofs.prepared_at.Reads as prepared-at-reads
 use Rattle.logbook.proofs.prepared_next.Kinds as prepared-next-kinds
 use Rattle.logbook.proofs.prepared_next.Reads as prepared-next-reads
+use Rattle.logbook.proofs.blank.Kinds as blank-kinds
+use Rattle.logbook.proofs.blank.Reads as blank-reads
 use Rattle.logbook.proofs.said_at.Kinds as said-at-kinds
 use Rattle.logbook.proofs.said_at.Reads as said-at-reads
 use Rattle.logbook.proofs.deciding.succeeded.Kinds as succeeded-kinds
@@ -28,6 +30,9 @@ prepared-at-pinned κs a z z′ ws ws′ p q = just p q
 
 pub prepared-next-pinned : OneOutcome 1 prepared-next-kinds.ps prepared-next-kinds.r prepared-next-reads.Post
 prepared-next-pinned κs a z z′ ws ws′ p q = just p q
+
+pub blank-pinned : OneOutcome 0 blank-kinds.ps blank-kinds.r blank-reads.Post
+blank-pinned κs a z z′ ws ws′ p q = just p q
 
 pub said-at-pinned : OneOutcome 1 said-at-kinds.ps said-at-kinds.r said-at-reads.Post
 said-at-pinned κs a z z′ ws ws′ p q = just p q

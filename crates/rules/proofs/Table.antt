@@ -4,7 +4,8 @@ use mathlib.Core.Path.{_≡_, refl}
 use lib.Dec.{lit<}
 use Rattle.board_record.specs.declared.State.{State}
 use Rattle.board_record.specs.declared.State.the-variants.{Idle, Preparing, HalfPrepared, Ready, Gathering, Together, Alone, HalfActivated, Dead}
-use Rattle.rules.specs.Table.{placeOf, rowAt, ruleOf, states}
+use Rattle.board_record.specs.Record.{placeOf}
+use Rattle.rules.specs.Table.{rowAt, ruleOf, states}
 
 pub place-below : (s : State) → placeOf s < states
 place-below Idle = lit< tt

@@ -30,18 +30,7 @@ ruleOf (Alone c) = cells (prime.Answers 7) activate.Try (cancel.Answers 2) power
 ruleOf (HalfActivated c) = cells (prime.Answers 7) activate.Try cancel.ToIdle power.Frozen
 ruleOf Dead = cells (prime.Answers 7) (activate.Answers 7) (cancel.Answers 0) power.Free
 
--- the order of the rows in the code's table
-abbrev pub placeOf : State → ℕ
-placeOf Idle = 0
-placeOf (Preparing c) = 1
-placeOf (HalfPrepared c) = 2
-placeOf (Ready c) = 3
-placeOf (Gathering c) = 4
-placeOf (Together c) = 5
-placeOf (Alone c) = 6
-placeOf (HalfActivated c) = 7
-placeOf Dead = 8
-
+-- the order of the rows in the code's table, each at its state's place
 abbrev inOrder : List State
 inOrder = Idle ∷ Preparing 0 ∷ HalfPrepared 0 ∷ Ready 0 ∷ Gathering 0 ∷ Together 0 ∷ Alone 0 ∷ HalfActivated 0 ∷ Dead ∷ []
 

@@ -2,7 +2,7 @@
 use board_record::State;
 ghost use mathlib.Core.Path.{_≡_};
 ghost use Prim.Native.Nat.{_<_};
-ghost use Rattle.rules.specs.Table.{placeOf, rowAt, ruleOf, states};
+ghost use Rattle.rules.specs.Table.{rowAt, ruleOf, states};
 
 // What PRIME does: the try, the try of the state's component alone, or a status -k.
 pub enum PrimeCell {
@@ -106,23 +106,6 @@ const RULES: [Row; STATES] = [
     },
 ];
 
-// A state's place in the table.
-fn place(s: State) -> usize
-    ensures { λ r. ⌜ r ≡ placeOf s ⌝ }
-{
-    match s {
-        State::Idle => 0,
-        State::Preparing(_) => 1,
-        State::HalfPrepared(_) => 2,
-        State::Ready(_) => 3,
-        State::Gathering(_) => 4,
-        State::Together(_) => 5,
-        State::Alone(_) => 6,
-        State::HalfActivated(_) => 7,
-        State::Dead => 8,
-    }
-}
-
 fn row_at(i: usize) -> Row
     requires { ⌜ i < states ⌝ }
     ensures { λ r. ⌜ r ≡ rowAt i ⌝ }
@@ -134,6 +117,6 @@ fn row_at(i: usize) -> Row
 pub(crate) fn rule(s: State) -> Row
     ensures { λ r. ⌜ r ≡ ruleOf s ⌝ }
 {
-    let i = place(s);
+    let i = board_record::place_of(s);
     row_at(i)
 }

@@ -11,12 +11,14 @@ use board_record::Record;
 use codes::Call;
 
 // The end of a job: of which component, and how it went.
+#[repr(C)]
 pub struct Report {
     pub component: u64,
     pub code: u64,
 }
 
 // An image that arrived: of which component, and its security version.
+#[repr(C)]
 pub struct Image {
     pub component: u64,
     pub version: u32,
@@ -44,6 +46,7 @@ pub enum Refusal {
 }
 
 // What a caller goes on with.
+#[repr(C)]
 pub struct Registers {
     pub x0: u64,
     pub x1: u64,

@@ -1,8 +1,12 @@
-use mathlib.Core.Path.{_≡_}
+use mathlib.Core.Path.{_≡_, sym}
+use mathlib.Core.Bool.{true}
 use mathlib.Core.List.{List}
 use Prim.Native.Nat.{ℕ}
 use lib.ListN.{length}
 use borrow.Author.Needs.{needs}
+use Rattle.basics.specs.Choice.{by}
+use Rattle.cpuset.specs.Set.{noneOf, sameOf}
+use Rattle.cpuset.specs.Laws.{none-has}
 use Rattle.cpuset.specs.declared.CpuSet.{CpuSet}
 use Rattle.board_record.specs.declared.Record.{Record}
 use Rattle.rules.specs.Decide.{decideOf}
@@ -12,6 +16,7 @@ use Rattle.agent.specs.Perform.{performOf}
 use Rattle.agent.specs.Step.{stepOf, resumingOf, sourceOf, entriesFrom, contextsFrom, filled, entriesOf, contextsOf}
 use Rattle.agent.specs.declared.Stepped.{Stepped}
 use Rattle.agent.specs.declared.tables.Source.{Source}
+use Rattle.agent.proofs.Written.{written-nobody}
 use Rattle.agent.proofs.step.Statement.{statement}
 use Rattle.agent.proofs.step.Tie as tie
 
@@ -25,6 +30,16 @@ in-turn r e entries contexts entries′ contexts′ x y m s cpus from d p u o a 
     let p′ = rw d at p in
     (p′, (rw (a, o, u, p′, d) at f, rw (b, o, u, p′, d) at g))
 
+-- where nobody resumes the tables are as they were
+resumes-nobody : (r : Record) (e : Event) (entries contexts : List ℕ) (m : Move) (s : Stepped) (cpus : CpuSet)
+    → m ≡ decideOf r e (length entries) (length contexts) → s ≡ performOf r m → cpus ≡ resumingOf (s .outcome) → sameOf cpus noneOf ≡ true
+    → (s ≡ stepOf r e (length entries) (length contexts)) × ((entries ≡ entriesOf r e entries contexts) × (contexts ≡ contextsOf r e entries contexts))
+unfolding stepOf entriesOf contextsOf
+resumes-nobody r e entries contexts m s cpus d p u none =
+    let p′ = rw d at p in
+    let nobody = none-has _ (rw (u, p′) at none) in
+    (p′, (sym (written-nobody _ _ _ _ nobody), sym (written-nobody _ _ _ _ nobody)))
+
 decide-requires : tie.Need-decide-requires
 decide-requires c κs = search needs
 
@@ -33,6 +48,9 @@ perform-requires c κs = search needs
 
 resuming-requires : tie.Need-resuming-requires
 resuming-requires c κs = search needs
+
+is-none-requires : tie.Need-is-none-requires
+is-none-requires c κs = search needs
 
 source-of-requires : tie.Need-source-of-requires
 source-of-requires c κs = search needs
@@ -57,12 +75,18 @@ same-length-2 c = search needs
 
 returns : tie.Need-returns
 returns c =
+    let u = c .before .before in
+    let p = u .before in
+    resumes-nobody _ _ _ _ _ _ _ (p .before .decide .ensures) (p .perform .ensures) (u .resuming .ensures) (by (c .before .is-none .ensures) (c .if1 .taken))
+
+returns-2 : tie.Need-returns-2
+returns-2 c =
     let g = c .before .before in
     let b = g .before .before in
     let f = b .before .before .before in
     let a = f .before .before in
     let o = a .before in
-    let u = o .before in
+    let u = o .before .before .before in
     let p = u .before in
     in-turn _ _ _ _ _ _ _ _ _ _ _ _ (p .before .decide .ensures) (p .perform .ensures) (u .resuming .ensures) (o .source-of .ensures)
     (a .entries .ensures) (f .fill .ensures) (b .contexts .ensures) (g .fill2 .ensures)
@@ -74,6 +98,8 @@ step-spec =
     decide-requires
     perform-requires
     resuming-requires
+    is-none-requires
+    returns
     source-of-requires
     entries-requires
     fill-requires
@@ -81,4 +107,4 @@ step-spec =
     fill-requires-2
     same-length
     same-length-2
-    returns)
+    returns-2)

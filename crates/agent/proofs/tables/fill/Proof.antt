@@ -1,12 +1,11 @@
 use Prim.Native.Nat.{_≤_, _-_}
-use mathlib.Core.Path.{_≡_, refl, sym}
+use mathlib.Core.Path.{_≡_, refl}
 use lib.ListN.{length, length-set}
 use borrow.Author.Needs.{needs}
 use Rattle.basics.specs.Choice.{by}
 use Rattle.cpuset.specs.Set.{hasOf}
-use Rattle.cpuset.specs.Laws.{none-has}
 use Rattle.agent.specs.Step.{written}
-use Rattle.agent.proofs.Written.{written-none, written-yes, written-no, written-end, written-nobody}
+use Rattle.agent.proofs.Written.{written-none, written-yes, written-no, written-end}
 use Rattle.agent.proofs.tables.fill.Statement.{statement}
 use Rattle.agent.proofs.tables.fill.Tie as tie
 
@@ -15,12 +14,6 @@ Inv-loop cpus table₀ from n i₀ table i = (i ≤ n) × (length table ≡ leng
 
 abbrev μ-loop : tie.MeasureT-loop
 μ-loop cpus table₀ from n i₀ table i = n - i
-
-is-none-requires : tie.Need-is-none-requires Inv-loop μ-loop
-is-none-requires c κs = search needs
-
-returns : tie.Need-returns Inv-loop μ-loop
-returns c = sym (written-nobody _ _ _ _ (none-has _ (by (c .before .is-none .ensures) (c .if1 .taken))))
 
 places-requires : tie.Need-places-requires Inv-loop μ-loop
 places-requires c κs = search needs
@@ -52,7 +45,7 @@ loop-less c = search needs
 loop-again : tie.Need-loop-again Inv-loop μ-loop
 loop-again c =
     let v = c .before .before .before .loop .inv in
-    (search needs, simp length-set (v .1), written-yes _ _ _ _ _ (v .2) (by (c .before .has .ensures) (c .if2 .taken)))
+    (search needs, simp length-set (v .1), written-yes _ _ _ _ _ (v .2) (by (c .before .has .ensures) (c .if1 .taken)))
 
 add-i-2 : tie.Need-add-i-2 Inv-loop μ-loop
 add-i-2 c = search needs
@@ -63,13 +56,13 @@ loop-less-2 c = search needs
 loop-again-2 : tie.Need-loop-again-2 Inv-loop μ-loop
 loop-again-2 c =
     let v = c .before .before .before .loop .inv in
-    (search needs, v .1, written-no _ _ _ _ _ (v .2) (by (c .before .has .ensures) (c .if2 .left)))
+    (search needs, v .1, written-no _ _ _ _ _ (v .2) (by (c .before .has .ensures) (c .if1 .left)))
 
 same-length : tie.Need-same-length Inv-loop μ-loop
 same-length c = search needs
 
-returns-2 : tie.Need-returns-2 Inv-loop μ-loop
-returns-2 c = written-end _ _ _ _ _ _ (search needs) (search needs) (c .before .loop .inv .2)
+returns : tie.Need-returns Inv-loop μ-loop
+returns c = written-end _ _ _ _ _ _ (search needs) (search needs) (c .before .loop .inv .2)
 
 pub fill-spec : {M : Type 1} → statement M
 fill-spec =
@@ -77,8 +70,6 @@ fill-spec =
     (tie.spec
     Inv-loop
     μ-loop
-    is-none-requires
-    returns
     places-requires
     loop-holds
     has-requires
@@ -93,4 +84,4 @@ fill-spec =
     loop-less-2
     loop-again-2
     same-length
-    returns-2)
+    returns)

@@ -17,6 +17,12 @@ abbrev μ-loop : tie.MeasureT-loop
 loop-holds : tie.Need-loop-holds Inv-loop μ-loop
 loop-holds c = (search needs, all-none _)
 
+mul-is-parted : tie.Need-mul-is-parted Inv-loop μ-loop
+mul-is-parted c = search needs
+
+element-copy-out-is-parted : tie.Need-element-copy-out-is-parted Inv-loop μ-loop
+element-copy-out-is-parted c = search needs
+
 is-parted-requires : tie.Need-is-parted-requires Inv-loop μ-loop
 is-parted-requires c κs = search needs
 
@@ -27,10 +33,10 @@ loop-less : tie.Need-loop-less Inv-loop μ-loop
 loop-less c = search needs
 
 loop-again : tie.Need-loop-again Inv-loop μ-loop
-loop-again c = (search needs, all-more _ _ (c .before .before .before .loop .inv .1) (by (c .before .is-parted .ensures) (c .if1 .taken)))
+loop-again c = (search needs, all-more _ _ (c .before .before .before .before .loop .inv .1) (by (c .before .is-parted .ensures) (c .if1 .taken)))
 
 returns : tie.Need-returns Inv-loop μ-loop
-returns c = all-fails _ _ _ (c .before .before .loop-test .taken) (by (c .before .is-parted .ensures) (c .if1 .left))
+returns c = all-fails _ _ _ (c .before .before .before .loop-test .taken) (by (c .before .is-parted .ensures) (c .if1 .left))
 
 returns-2 : tie.Need-returns-2 Inv-loop μ-loop
 returns-2 c = all-done _ _ _ (c .before .loop .inv .0) (c .loop-test .left) (c .before .loop .inv .1)
@@ -42,6 +48,8 @@ is-apart-spec =
     Inv-loop
     μ-loop
     loop-holds
+    mul-is-parted
+    element-copy-out-is-parted
     is-parted-requires
     add-i
     loop-less

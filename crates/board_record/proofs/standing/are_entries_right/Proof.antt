@@ -24,14 +24,14 @@ has-requires c κs = search needs
 mul-is-entry-right : tie.Need-mul-is-entry-right Inv-loop μ-loop
 mul-is-entry-right c = search needs
 
-array-read-is-entry-right : tie.Need-array-read-is-entry-right Inv-loop μ-loop
-array-read-is-entry-right c = search needs
+element-copy-out-is-entry-right : tie.Need-element-copy-out-is-entry-right Inv-loop μ-loop
+element-copy-out-is-entry-right c = search needs
 
 mul-is-entry-right-2 : tie.Need-mul-is-entry-right-2 Inv-loop μ-loop
 mul-is-entry-right-2 c = search needs
 
-array-read-is-entry-right-2 : tie.Need-array-read-is-entry-right-2 Inv-loop μ-loop
-array-read-is-entry-right-2 c = search needs
+element-copy-out-is-entry-right-2 : tie.Need-element-copy-out-is-entry-right-2 Inv-loop μ-loop
+element-copy-out-is-entry-right-2 c = search needs
 
 is-entry-right-requires : tie.Need-is-entry-right-requires Inv-loop μ-loop
 is-entry-right-requires c κs = search needs
@@ -43,11 +43,11 @@ loop-less : tie.Need-loop-less Inv-loop μ-loop
 loop-less c = search needs
 
 loop-again : tie.Need-loop-again Inv-loop μ-loop
-loop-again c = (search needs, all-more _ _ (c .before .before .before .before .loop .inv .1) (rw (← c .before .before .has .ensures) (by (c .before .is-entry-right .ensures) (c .if1 .taken))))
+loop-again c = (search needs, all-more _ _ (c .before .before .before .before .before .before .loop .inv .1) (rw (← c .before .before .before .before .has .ensures) (by (c .before .is-entry-right .ensures) (c .if1 .taken))))
 
 returns : tie.Need-returns Inv-loop μ-loop
 unfolding entriesStand
-returns c = all-fails _ _ _ (c .before .before .before .loop-test .taken) (rw (← c .before .before .has .ensures) (by (c .before .is-entry-right .ensures) (c .if1 .left)))
+returns c = all-fails _ _ _ (c .before .before .before .before .before .loop-test .taken) (rw (← c .before .before .before .before .has .ensures) (by (c .before .is-entry-right .ensures) (c .if1 .left)))
 
 returns-2 : tie.Need-returns-2 Inv-loop μ-loop
 unfolding entriesStand
@@ -62,9 +62,9 @@ are-entries-right-spec =
     loop-holds
     has-requires
     mul-is-entry-right
-    array-read-is-entry-right
+    element-copy-out-is-entry-right
     mul-is-entry-right-2
-    array-read-is-entry-right-2
+    element-copy-out-is-entry-right-2
     is-entry-right-requires
     add-i
     loop-less

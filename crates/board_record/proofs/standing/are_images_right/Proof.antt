@@ -1,13 +1,21 @@
 use borrow.Author.Needs.{needs}
-use mathlib.Core.Path.{_≡_}
-use mathlib.Core.Bool.{true}
-use Prim.Native.Nat.{_≤_, _-_}
+use borrow.Author.Tests.{lt-ltb}
+use mathlib.Core.Path.{_≡_, _∙_}
+use mathlib.Core.Bool.{true, _&&_}
+use Prim.Native.Nat.{ℕ, _<_, _≤_, _-_}
+use lib.Dec.{ltb}
 use Rattle.basics.specs.Choice.{by}
 use Rattle.basics.specs.Every.{allBelow, all-none, all-more, all-fails, all-done}
-use Rattle.board.specs.Description.{mostComponents}
+use Rattle.board.specs.Description.{mostComponents, componentOf, numberedOf, isCapable}
+use Rattle.board.specs.declared.Board.{Board}
 use Rattle.board_record.specs.WellFormed.{imageAt, imagesStand}
 use Rattle.board_record.proofs.standing.are_images_right.Statement.{statement}
 use Rattle.board_record.proofs.standing.are_images_right.Tie as tie
+
+-- at a place of the table the component is the one there
+capable-at : (b : Board) (i : ℕ) → i < mostComponents → (ltb i (b .components) && componentOf b i .capable) ≡ isCapable b i
+unfolding isCapable numberedOf
+capable-at b i l = rw (lt-ltb i mostComponents l)
 
 abbrev Inv-loop : tie.InvT-loop
 Inv-loop b pending version i₀ i = (i ≤ mostComponents) × (allBelow i (imageAt b pending version) ≡ true)
@@ -18,8 +26,14 @@ abbrev μ-loop : tie.MeasureT-loop
 loop-holds : tie.Need-loop-holds Inv-loop μ-loop
 loop-holds c = (search needs, all-none _)
 
-is-capable-requires : tie.Need-is-capable-requires Inv-loop μ-loop
-is-capable-requires c κs = search needs
+mul-c : tie.Need-mul-c Inv-loop μ-loop
+mul-c c = search needs
+
+element-copy-out-c : tie.Need-element-copy-out-c Inv-loop μ-loop
+element-copy-out-c c = search needs
+
+is-place-capable-requires : tie.Need-is-place-capable-requires Inv-loop μ-loop
+is-place-capable-requires c κs = search needs
 
 array-read-is-image-right : tie.Need-array-read-is-image-right Inv-loop μ-loop
 array-read-is-image-right c = search needs
@@ -39,12 +53,21 @@ add-i c = search needs
 loop-less : tie.Need-loop-less Inv-loop μ-loop
 loop-less c = search needs
 
+capable : (c : tie.After-is-place-capable Inv-loop μ-loop) → let l = c .before .before .before in c .is-place-capable .result ≡ isCapable (l .before .args .t1) (l .loop .i)
+capable c =
+    let t = c .before .before in
+    c .is-place-capable .ensures ∙ capable-at (t .before .before .args .t1) (t .before .loop .i) (t .loop-test .taken)
+
 loop-again : tie.Need-loop-again Inv-loop μ-loop
-loop-again c = (search needs, all-more _ _ (c .before .before .before .before .loop .inv .1) (by (rw (c .before .before .is-capable .ensures) at (c .before .is-image-right .ensures)) (c .if1 .taken)))
+loop-again c =
+    let t = c .before .before .before .before in
+    (search needs, all-more _ _ (t .before .loop .inv .1) (by (rw (capable (c .before .before)) at (c .before .is-image-right .ensures)) (c .if1 .taken)))
 
 returns : tie.Need-returns Inv-loop μ-loop
 unfolding imagesStand
-returns c = all-fails _ _ _ (c .before .before .before .loop-test .taken) (by (rw (c .before .before .is-capable .ensures) at (c .before .is-image-right .ensures)) (c .if1 .left))
+returns c =
+    let t = c .before .before .before .before in
+    all-fails _ _ _ (t .loop-test .taken) (by (rw (capable (c .before .before)) at (c .before .is-image-right .ensures)) (c .if1 .left))
 
 returns-2 : tie.Need-returns-2 Inv-loop μ-loop
 unfolding imagesStand
@@ -57,7 +80,9 @@ are-images-right-spec =
     Inv-loop
     μ-loop
     loop-holds
-    is-capable-requires
+    mul-c
+    element-copy-out-c
+    is-place-capable-requires
     array-read-is-image-right
     mul-is-image-right
     array-read-is-image-right-2

@@ -19,9 +19,10 @@ are-entries-right-requires c κs = search needs
 returns : tie.Need-returns
 unfolding workStands
 returns c =
-    let h = c .before .before in
+    let k = c .before .before .before .before in
+    let h = k .before in
     let s = h .before .before in
-    rw (by (s .before .is-state-right .ensures) (s .if1 .taken), by (h .before .is-held-right .ensures) (h .if2 .taken), ← c .before .keepers .ensures) (c .are-entries-right .ensures)
+    rw (by (s .before .is-state-right .ensures) (s .if1 .taken), by (h .before .is-held-right .ensures) (h .if2 .taken), ← k .keepers .ensures) (c .are-entries-right .ensures)
 
 returns-2 : tie.Need-returns-2
 unfolding workStands

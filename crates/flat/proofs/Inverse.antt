@@ -1,0 +1,161 @@
+-- Records as numbers and back: on what is well formed each way undoes the other. Assumes nothing.
+use Prim.Native.Nat.{ℕ, zero, suc, _+_, _<_}
+use mathlib.Core.Path.{_≡_, refl, sym, ap, _∙_}
+use mathlib.Core.Bool.{Bool, true, false, _&&_}
+use mathlib.Core.List.{List}
+use lib.Dec.{eqb}
+use lib.ListN.{length, getD}
+use lib.Seq.{take-all}
+use borrow.Author.Tests.{eqb-true, leb-true, ltb-true}
+use native.Mathlib.Omega.{arith}
+use native.Mathlib.Nat.{zero-add}
+use Rattle.basics.specs.Choice.{refuted, and-left, and-right}
+use Rattle.basics.specs.Every.{all-at, all-of}
+use Rattle.basics.specs.Places.{firsts, firsts-same, firsts-part, getD-firsts}
+use Rattle.board.specs.Description.{mostComponents, mostCpus, absent}
+use Rattle.board.specs.Packed.{digitOf}
+use Rattle.board.specs.declared.Board.{Board}
+use Rattle.board.specs.declared.Component.{Component}
+use Rattle.board_record.specs.Record.{placeOf}
+use Rattle.board_record.specs.declared.Record.{Record}
+use Rattle.board_record.specs.declared.State.{State}
+use Rattle.board_record.specs.declared.State.the-variants.{Idle, Preparing, HalfPrepared, Ready, Gathering, Together, Alone, HalfActivated, Dead}
+use Rattle.board_record.proofs.Clauses.{Sized}
+use Rattle.flat.specs.Records.{isFlag, flagIn, flatFlags, areFlags, subjectNumber, stateIn, isState, flatComponent, componentIn, isFlatComponent, absentFlat, flatComponents, componentsIn, areFlatComponents, flatBoard, boardIn, flatWith, flatOf, recordIn, isFlat}
+use Rattle.flat.specs.declared.FlatBoard.{FlatBoard}
+use Rattle.flat.specs.declared.FlatComponent.{FlatComponent}
+use Rattle.flat.specs.declared.FlatRecord.{FlatRecord}
+
+-- ---- tables: what undoes itself at each place undoes itself
+list-places : {A : Type 0} (n : ℕ) (l : List A) (d : A) → length l ≡ n → firsts n (λ i. getD l i d) ≡ l
+list-places n l d e =
+    firsts-same n (λ i. getD l i d) (λ i. getD l (0 + i) d) (λ i h. rw zero-add) ∙ firsts-part n 0 l d (omega (arith, e)) ∙ take-all n l (omega (arith, e))
+
+there-back : {A B : Type 0} (n : ℕ) (f : A → B) (g : B → A) (l : List A) (a : A) (b : B) → length l ≡ n
+    → ((i : ℕ) → i < n → g (f (getD l i a)) ≡ getD l i a) → firsts n (λ i. g (getD (firsts n (λ k. f (getD l k a))) i b)) ≡ l
+there-back n f g l a b e back =
+    firsts-same n (λ i. g (getD (firsts n (λ k. f (getD l k a))) i b)) (λ i. getD l i a)
+    (λ i h. ap g (getD-firsts (λ k. f (getD l k a)) n i b h) ∙ back i h)
+    ∙ list-places n l a e
+
+-- ---- flags
+pub flag-back : (b : Bool) → flagIn (digitOf b) ≡ b
+flag-back true = refl
+flag-back false = refl
+
+flag-is : (b : Bool) → isFlag (digitOf b) ≡ true
+flag-is true = refl
+flag-is false = refl
+
+pub flag-there : (n : ℕ) → isFlag n ≡ true → digitOf (flagIn n) ≡ n
+flag-there zero e = refl
+flag-there (suc zero) e = refl
+flag-there (suc (suc n)) e = let l = leb-true (suc (suc n)) 1 e in absurd (omega arith)
+
+-- ---- states
+pub state-back : (s : State) → stateIn (placeOf s) (subjectNumber s) ≡ s
+state-back Idle = refl
+state-back (Preparing c) = refl
+state-back (HalfPrepared c) = refl
+state-back (Ready c) = refl
+state-back (Gathering c) = refl
+state-back (Together c) = refl
+state-back (Alone c) = refl
+state-back (HalfActivated c) = refl
+state-back Dead = refl
+
+state-is : (s : State) → isState (placeOf s) (subjectNumber s) ≡ true
+state-is Idle = refl
+state-is (Preparing c) = refl
+state-is (HalfPrepared c) = refl
+state-is (Ready c) = refl
+state-is (Gathering c) = refl
+state-is (Together c) = refl
+state-is (Alone c) = refl
+state-is (HalfActivated c) = refl
+state-is Dead = refl
+
+-- a number and a component are those of the state that they make
+abbrev Makes : ℕ → ℕ → Type 0
+Makes n c = (placeOf (stateIn n c) ≡ n) × (subjectNumber (stateIn n c) ≡ c)
+
+-- past dead there is no state
+past-dead : (n c : ℕ) → 8 < n → isState n c ≡ true → ⊥
+past-dead n c h e =
+    let first : eqb n 0 ≡ false = refuted (eqb n 0) (λ q. let z = eqb-true n 0 q in omega arith) in
+    let last : eqb n 8 ≡ false = refuted (eqb n 8) (λ q. let z = eqb-true n 8 q in omega arith) in
+    let l = ltb-true n 8 (rw (first, last) at e) in omega arith
+
+pub state-there : (n c : ℕ) → isState n c ≡ true → Makes n c
+state-there zero c e = (refl, sym (eqb-true c 0 e))
+state-there (suc zero) c e = (refl, refl)
+state-there (suc (suc zero)) c e = (refl, refl)
+state-there (suc (suc (suc zero))) c e = (refl, refl)
+state-there (suc (suc (suc (suc zero)))) c e = (refl, refl)
+state-there (suc (suc (suc (suc (suc zero))))) c e = (refl, refl)
+state-there (suc (suc (suc (suc (suc (suc zero)))))) c e = (refl, refl)
+state-there (suc (suc (suc (suc (suc (suc (suc zero))))))) c e = (refl, refl)
+state-there (suc (suc (suc (suc (suc (suc (suc (suc zero)))))))) c e = (refl, sym (eqb-true c 0 e))
+state-there (suc (suc (suc (suc (suc (suc (suc (suc (suc n))))))))) c e = absurd (past-dead (suc (suc (suc (suc (suc (suc (suc (suc (suc n))))))))) c (omega arith) e)
+
+-- ---- components and boards
+pub component-back : (c : Component) → componentIn (flatComponent c) ≡ c
+unfolding flatComponent componentIn
+component-back c = rw (flag-back (c .capable), flag-back (c .«may_reset»), flag-back (c .optional))
+
+component-is : (c : Component) → isFlatComponent (flatComponent c) ≡ true
+unfolding flatComponent
+component-is c = rw (flag-is (c .capable), flag-is (c .«may_reset»), flag-is (c .optional))
+
+pub component-there : (c : FlatComponent) → isFlatComponent c ≡ true → flatComponent (componentIn c) ≡ c
+unfolding flatComponent componentIn
+component-there c e =
+    let two = and-right (isFlag (c .capable)) (isFlag (c .«may_reset») && isFlag (c .optional)) e in
+    rw (flag-there (c .capable) (and-left (isFlag (c .capable)) (isFlag (c .«may_reset») && isFlag (c .optional)) e), flag-there (c .«may_reset») (and-left (isFlag (c .«may_reset»)) (isFlag (c .optional)) two), flag-there (c .optional) (and-right (isFlag (c .«may_reset»)) (isFlag (c .optional)) two))
+
+pub board-back : (b : Board) → length (b .component) ≡ mostComponents → boardIn (flatBoard b) ≡ b
+unfolding boardIn flatBoard componentsIn flatComponents
+board-back b e =
+    rw (there-back mostComponents flatComponent componentIn (b .component) absent absentFlat e (λ i h. component-back (getD (b .component) i absent)))
+
+pub board-there : (b : FlatBoard) → length (b .component) ≡ mostComponents → areFlatComponents (b .component) ≡ true → flatBoard (boardIn b) ≡ b
+unfolding boardIn flatBoard componentsIn flatComponents
+board-there b e are =
+    rw (there-back mostComponents componentIn flatComponent (b .component) absentFlat absent e (λ i h. component-there (getD (b .component) i absentFlat) (all-at mostComponents _ are i h)))
+
+-- ---- records: what their types say of their tables' lengths
+pub record SizedFlat (f : FlatRecord) : Type 0 where
+  pub components : length (f .board .component) ≡ mostComponents
+  pub pending : length (f .pending) ≡ mostComponents
+  pub version : length (f .version) ≡ mostComponents
+  pub entry : length (f .entry) ≡ mostCpus
+  pub context : length (f .context) ≡ mostCpus
+
+module _ (r : Record) (components : length (r .board .component) ≡ mostComponents) (z : Sized r) where
+  -- a record's numbers are a record's
+  pub flat-is : isFlat (flatOf r) ≡ true
+  unfolding isFlat flatWith flatBoard flatComponents
+  flat-is =
+      let cs : areFlatComponents (flatComponents (r .board .component)) ≡ true
+      = all-of mostComponents _ (λ i h. rw (getD-firsts (λ k. flatComponent (getD (r .board .component) k absent)) mostComponents i absentFlat h) (component-is (getD (r .board .component) i absent))) in
+      let ps : areFlags (flatFlags (r .pending)) ≡ true
+      = all-of mostComponents _ (λ i h. rw (getD-firsts (λ k. digitOf (getD (r .pending) k false)) mostComponents i 0 h) (flag-is (getD (r .pending) i false))) in
+      rw (cs, ps, state-is (r .state), flag-is (r .informed))
+
+  -- and it is read back from them
+  pub record-back : recordIn (flatOf r) ≡ r
+  unfolding recordIn flatWith
+  record-back =
+      rw (board-back (r .board) components, there-back mostComponents digitOf flagIn (r .pending) false 0 (z .pending) (λ i h. flag-back (getD (r .pending) i false)), state-back (r .state), flag-back (r .informed))
+
+-- numbers that are a record's are its numbers
+pub flat-there : (f : FlatRecord) → SizedFlat f → isFlat f ≡ true → flatOf (recordIn f) ≡ f
+unfolding isFlat recordIn flatWith
+flat-there f z e =
+    let cs = areFlatComponents (f .board .component) in
+    let ps = areFlags (f .pending) in
+    let st = isState (f .state) (f .subject) in
+    let rest = and-right cs (ps && (st && isFlag (f .informed))) e in
+    let more = and-right ps (st && isFlag (f .informed)) rest in
+    let s = state-there (f .state) (f .subject) (and-left st (isFlag (f .informed)) more) in
+    rw (board-there (f .board) (z .components) (and-left cs (ps && (st && isFlag (f .informed))) e), there-back mostComponents flagIn digitOf (f .pending) 0 false (z .pending) (λ i h. flag-there (getD (f .pending) i 0) (all-at mostComponents _ (and-left ps (st && isFlag (f .informed)) rest) i h)), s .0, s .1, flag-there (f .informed) (and-right st (isFlag (f .informed)) more))

@@ -1,0 +1,3 @@
+pub mod Inverse
+pub mod Pinned
+pub mod Through

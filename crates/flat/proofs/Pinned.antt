@@ -1,0 +1,27 @@
+-- Each public function's promise leaves one outcome. Assumes nothing.
+use Rattle.basics.proofs.Pin.{OneOutcome, same, just}
+use Rattle.flat.proofs.fresh.Kinds as fresh-kinds
+use Rattle.flat.proofs.fresh.Reads as fresh-reads
+use Rattle.flat.proofs.step.Kinds as step-kinds
+use Rattle.flat.proofs.step.Reads as step-reads
+use Rattle.flat.proofs.log.Kinds as log-kinds
+use Rattle.flat.proofs.log.Reads as log-reads
+use Rattle.flat.proofs.prepared.Kinds as prepared-kinds
+use Rattle.flat.proofs.prepared.Reads as prepared-reads
+use Rattle.flat.proofs.starts.Kinds as starts-kinds
+use Rattle.flat.proofs.starts.Reads as starts-reads
+
+pub fresh-pinned : OneOutcome 1 fresh-kinds.ps fresh-kinds.r fresh-reads.Post
+fresh-pinned κs a z z′ ws ws′ p q = just p q
+
+pub step-pinned : OneOutcome 2 step-kinds.ps step-kinds.r step-reads.Post
+step-pinned κs a z z′ ws ws′ p q = (same (p .0) (q .0), λ i. (tt, (tt, (same (p .1 .0) (q .1 .0) i, (same (p .1 .1) (q .1 .1) i, tt)))))
+
+pub log-pinned : OneOutcome 1 log-kinds.ps log-kinds.r log-reads.Post
+log-pinned κs a z z′ ws ws′ p q = (same (p .0) (q .0), λ i. (same (p .1) (q .1) i, (tt, (tt, tt))))
+
+pub prepared-pinned : OneOutcome 1 prepared-kinds.ps prepared-kinds.r prepared-reads.Post
+prepared-pinned κs a z z′ ws ws′ p q = just p q
+
+pub starts-pinned : OneOutcome 2 starts-kinds.ps starts-kinds.r starts-reads.Post
+starts-pinned κs a z z′ ws ws′ p q = just p q

@@ -1,0 +1,78 @@
+use mathlib.Core.Path.{_≡_}
+use Prim.Native.Nat.{_≤_, _-_}
+use lib.ListN.{getD}
+use native.Mathlib.Omega.{arith}
+use borrow.Author.Needs.{needs}
+use Rattle.basics.specs.Places.{firsts, table, table-more, table-full}
+use Rattle.board.specs.Description.{mostComponents}
+use Rattle.flat.specs.Records.{componentIn, blankFlat, absentFlat, componentsIn}
+use Rattle.flat.proofs.records.components.Statement.{statement}
+use Rattle.flat.proofs.records.components.Tie as tie
+
+abbrev Inv-loop : tie.InvT-loop
+Inv-loop from all₀ i₀ all i = (i ≤ mostComponents) × (all ≡ table mostComponents (componentIn blankFlat) i (λ k. componentIn (getD from k absentFlat)))
+
+abbrev μ-loop : tie.MeasureT-loop
+μ-loop from all₀ i₀ all i = mostComponents - i
+
+blank-requires : tie.Need-blank-requires Inv-loop μ-loop
+blank-requires c κs = search needs
+
+component-requires : tie.Need-component-requires Inv-loop μ-loop
+component-requires c κs = search needs
+
+loop-holds : tie.Need-loop-holds Inv-loop μ-loop
+unfolding firsts
+loop-holds c = (search needs, rw (c .component .ensures, c .before .blank .ensures))
+
+mul-component : tie.Need-mul-component Inv-loop μ-loop
+mul-component c = search needs
+
+array-copy-out-component : tie.Need-array-copy-out-component Inv-loop μ-loop
+array-copy-out-component c = search needs
+
+component-requires-2 : tie.Need-component-requires-2 Inv-loop μ-loop
+component-requires-2 c κs = search needs
+
+mul-all : tie.Need-mul-all Inv-loop μ-loop
+mul-all c = search needs
+
+array-set-from-all : tie.Need-array-set-from-all Inv-loop μ-loop
+array-set-from-all c = search needs
+
+add-i : tie.Need-add-i Inv-loop μ-loop
+add-i c = search needs
+
+loop-less : tie.Need-loop-less Inv-loop μ-loop
+loop-less c = search needs
+
+loop-again : tie.Need-loop-again Inv-loop μ-loop
+loop-again c =
+    let l = c .before .before .before .loop in
+    (search needs, rw (l .inv .1, c .component2 .ensures) (table-more _ mostComponents (componentIn blankFlat) (l .i) (search needs)))
+
+returns : tie.Need-returns Inv-loop μ-loop
+unfolding componentsIn
+returns c =
+    let l = c .before .loop in
+    let e : l .i ≡ mostComponents = omega arith in
+    rw (l .inv .1, e) (table-full _ mostComponents (componentIn blankFlat))
+
+pub components-spec : {M : Type 1} → statement M
+components-spec =
+    tie.close
+    (tie.spec
+    Inv-loop
+    μ-loop
+    blank-requires
+    component-requires
+    loop-holds
+    mul-component
+    array-copy-out-component
+    component-requires-2
+    mul-all
+    array-set-from-all
+    add-i
+    loop-less
+    loop-again
+    returns)

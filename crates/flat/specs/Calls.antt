@@ -1,0 +1,95 @@
+-- What a host's calls answer: the agent, the log and the plain reader through numbers. Assumes nothing.
+use Prim.Native.Nat.{ℕ}
+use mathlib.Core.List.{List}
+use lib.Dec.{ltb}
+use Rattle.basics.specs.Choice.{pick}
+use Rattle.codes.specs.declared.Call.{Call}
+use Rattle.board.specs.Description.{numberOf as boardNumber}
+use Rattle.board.specs.Packed.{readOf}
+use Rattle.board.specs.declared.Verdict.{Verdict}
+use Rattle.board.specs.declared.Verdict.the-variants.{Accepted, Refused}
+use Rattle.board.specs.declared.Board.{Board}
+use Rattle.board_record.specs.Record.{freshOf}
+use Rattle.board_record.specs.WellFormed.{wellFormed}
+use Rattle.board_record.specs.declared.Record.{Record}
+use Rattle.rules.specs.Statuses.{numberOf as ruleNumber}
+use Rattle.rules.specs.declared.Refusal.the-variants.{NotWellFormed, TableShort}
+use Rattle.agent.specs.Step as agent
+use Rattle.agent.specs.declared.Stepped.{Stepped}
+use Rattle.log_record.specs.Packed as packed
+use Rattle.log_record.specs.Rules.{numberOf as logNumber}
+use Rattle.log_record.specs.declared.Refusal.the-variants as log-refusal
+use Rattle.logbook.specs.Prepared.{preparedAt}
+use Rattle.reader.specs.Starts.{startsAt}
+use Rattle.flat.specs.Answers.{eventIn, refusedAnswer, answerOf, loggedIn, writtenBy, preparedBy, startedBy}
+use Rattle.flat.specs.Records.{flatWith, flatOf, recordIn, isFlat, zeroRecord}
+use Rattle.flat.specs.declared.FlatAnswer.{FlatAnswer}
+use Rattle.flat.specs.declared.FlatEvent.{FlatEvent}
+use Rattle.flat.specs.declared.FlatFresh.{FlatFresh}
+use Rattle.flat.specs.declared.FlatPrepared.{FlatPrepared}
+use Rattle.flat.specs.declared.FlatRecord.{FlatRecord}
+use Rattle.flat.specs.declared.FlatStarted.{FlatStarted}
+use Rattle.flat.specs.declared.FlatStepped.{FlatStepped}
+use Rattle.flat.specs.declared.FlatWritten.{FlatWritten}
+use Rattle.flat.specs.declared.answers.Read.{Read}
+use Rattle.flat.specs.declared.answers.Read.the-variants.{Known, Unknown}
+
+-- ---- a fresh record from a packed board
+abbrev pub freshBy : Verdict → Board → FlatFresh
+freshBy Accepted b = record { refusal = 0; rec = flatOf (freshOf b) }
+freshBy (Refused x) b = record { refusal = boardNumber x; rec = zeroRecord }
+
+unfoldable pub freshIn : List ℕ → FlatFresh
+freshIn s = freshBy (readOf s .verdict) (readOf s .board)
+
+-- ---- one event: 9 where the numbers are no record's, then as the agent says
+unfoldable pub keptWith : FlatRecord → ℕ → FlatStepped
+keptWith f n = record { rec = f; answer = refusedAnswer n }
+
+-- no event changes the board
+unfoldable pub throughOf : FlatRecord → Stepped → FlatStepped
+throughOf f s = record { rec = flatWith (f .board) (s .rec); answer = answerOf (s .outcome) }
+
+-- a kind that is none of the four: 9 and 1 first, as for any event, then 32
+unfoldable pub noEvent : Record → ℕ → ℕ → ℕ
+noEvent r n m =
+    pick (wellFormed r)
+    (pick (ltb n (r .board .cpus)) (ruleNumber TableShort)
+    (pick (ltb m (r .board .cpus)) (ruleNumber TableShort)
+    (logNumber log-refusal.Unknown)))
+    (ruleNumber NotWellFormed)
+
+abbrev pub stepBy : Read → FlatRecord → ℕ → ℕ → FlatStepped
+stepBy (Known e) f n m = throughOf f (agent.stepOf (recordIn f) e n m)
+stepBy Unknown f n m = keptWith f (noEvent (recordIn f) n m)
+
+unfoldable pub stepOf : FlatRecord → FlatEvent → ℕ → ℕ → FlatStepped
+stepOf f e n m = pick (isFlat f) (stepBy (eventIn e) f n m) (keptWith f (ruleNumber NotWellFormed))
+
+abbrev pub entriesBy : Read → FlatRecord → List ℕ → List ℕ → List ℕ
+entriesBy (Known e) f entries contexts = agent.entriesOf (recordIn f) e entries contexts
+entriesBy Unknown f entries contexts = entries
+
+unfoldable pub entriesOf : FlatRecord → FlatEvent → List ℕ → List ℕ → List ℕ
+entriesOf f e entries contexts = pick (isFlat f) (entriesBy (eventIn e) f entries contexts) entries
+
+abbrev pub contextsBy : Read → FlatRecord → List ℕ → List ℕ → List ℕ
+contextsBy (Known e) f entries contexts = agent.contextsOf (recordIn f) e entries contexts
+contextsBy Unknown f entries contexts = contexts
+
+unfoldable pub contextsOf : FlatRecord → FlatEvent → List ℕ → List ℕ → List ℕ
+contextsOf f e entries contexts = pick (isFlat f) (contextsBy (eventIn e) f entries contexts) contexts
+
+-- ---- the log record of an answer
+unfoldable pub writtenOf : ℕ → FlatEvent → FlatAnswer → FlatWritten
+writtenOf room e a = writtenBy (packed.putOf room (loggedIn e a))
+
+unfoldable pub bufferOf : List ℕ → FlatEvent → FlatAnswer → List ℕ
+bufferOf d e a = packed.bufferOf d (loggedIn e a)
+
+-- ---- the questions
+unfoldable pub preparedIn : List ℕ → ℕ → FlatPrepared
+preparedIn log place = preparedBy (preparedAt log place)
+
+unfoldable pub startedIn : List ℕ → List ℕ → ℕ → Call → FlatStarted
+startedIn board log place call = startedBy (startsAt board log place call)

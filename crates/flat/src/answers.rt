@@ -1,0 +1,326 @@
+// Events, answers and what questions find, as numbers and back.
+use crate::FlatAnswer;
+use crate::FlatEvent;
+use crate::FlatFound;
+use crate::FlatPrepared;
+use crate::FlatRecord;
+use crate::FlatStarted;
+use crate::FlatStepped;
+use crate::FlatWritten;
+use agent::Answer;
+use agent::Caller;
+use agent::Freed;
+use agent::Outcome;
+use agent::Release;
+use agent::Stepped;
+use log_record::ACTIVATE_REPORT;
+use log_record::ACTIVATION_STARTED;
+use log_record::CALL;
+use log_record::GONE;
+use log_record::HELD;
+use log_record::IMAGE;
+use log_record::LogRecord;
+use log_record::PRIME_REPORT;
+use log_record::PRIME_STARTED;
+use log_record::RETURNED;
+use log_record::Written;
+use logbook::Flaw;
+use logbook::Primed;
+use reader::Started;
+use rules::Event;
+use rules::Registers;
+ghost use mathlib.Core.Path.{_≡_};
+ghost use Rattle.logbook.specs.Log.{blank};
+ghost use Rattle.flat.specs.Answers.{eventIn, noRegisters, returnedOf, releaseNumber, freedOf, refusedAnswer, answerOf, callerIn, releaseIn, loggedIn, writtenBy, primedFound, foundOf, notFound, startedFound, preparedBy, notStarted, logRefused, startedBy};
+ghost use Rattle.flat.specs.Calls.{keptWith, throughOf};
+
+// How CPUs are released.
+const NOBODY: u64 = 0;
+
+const WITH_STATUS: u64 = 1;
+
+const BY_ENTRY: u64 = 2;
+
+// An event, or none of the four.
+pub enum Read {
+    Known(Event),
+    Unknown,
+}
+
+pub(crate) fn event(e: FlatEvent) -> Read
+    ensures { λ r. ⌜ r ≡ eventIn e ⌝ }
+{
+    let kind = e.kind;
+    let call = e.call;
+    let report = e.report;
+    let image = e.image;
+    match kind {
+        CALL => Read::Known(Event::Call(call)),
+        PRIME_REPORT => Read::Known(Event::Prime(report)),
+        ACTIVATE_REPORT => Read::Known(Event::Activate(report)),
+        IMAGE => Read::Known(Event::Image(image)),
+        _ => Read::Unknown,
+    }
+}
+
+fn no_registers() -> Registers
+    ensures { λ r. ⌜ r ≡ noRegisters ⌝ }
+{
+    Registers {
+        x0: 0,
+        x1: 0,
+        x2: 0,
+        x3: 0,
+    }
+}
+
+fn returned(c: Caller) -> Registers
+    ensures { λ r. ⌜ r ≡ returnedOf c ⌝ }
+{
+    match c {
+        Caller::Nothing => no_registers(),
+        Caller::Returned(x) => x,
+        Caller::Held => no_registers(),
+        Caller::PrimeStarted => no_registers(),
+        Caller::ActivationStarted => no_registers(),
+        Caller::Gone => no_registers(),
+    }
+}
+
+fn release_number(l: Release) -> u64
+    ensures { λ r. ⌜ r ≡ releaseNumber l ⌝ }
+{
+    match l {
+        Release::Nobody => NOBODY,
+        Release::Returned(_) => WITH_STATUS,
+        Release::Resumed(_) => BY_ENTRY,
+    }
+}
+
+// The CPUs that are released, with X0 and X1; by entry address these are 0.
+fn freed(l: Release) -> Freed
+    ensures { λ r. ⌜ r ≡ freedOf l ⌝ }
+{
+    match l {
+        Release::Nobody => Freed {
+            cpus: cpuset::none(),
+            x0: 0,
+            x1: 0,
+        },
+        Release::Returned(f) => f,
+        Release::Resumed(cpus) => Freed {
+            cpus: cpus,
+            x0: 0,
+            x1: 0,
+        },
+    }
+}
+
+// A refusal, and nothing else.
+fn refused_answer(number: u64) -> FlatAnswer
+    ensures { λ a. ⌜ a ≡ refusedAnswer number ⌝ }
+{
+    FlatAnswer {
+        refusal: number,
+        caller: 0,
+        returned: no_registers(),
+        release: NOBODY,
+        freed: freed(Release::Nobody),
+    }
+}
+
+fn answer(o: Outcome) -> FlatAnswer
+    ensures { λ a. ⌜ a ≡ answerOf o ⌝ }
+{
+    match o {
+        Outcome::Refused(x) => refused_answer(rules::number(x)),
+        Outcome::Accepted(a) => {
+            let caller = a.caller;
+            let release = a.release;
+            FlatAnswer {
+                refusal: 0,
+                caller: trace::outcome(caller),
+                returned: returned(caller),
+                release: release_number(release),
+                freed: freed(release),
+            }
+        }
+    }
+}
+
+// The record stays, and nothing but the refusal is answered.
+pub(crate) fn refused(rec: FlatRecord, number: u64) -> FlatStepped
+    ensures { λ r. ⌜ r ≡ keptWith rec number ⌝ }
+{
+    FlatStepped {
+        rec: rec,
+        answer: refused_answer(number),
+    }
+}
+
+// What the agent's step is as numbers; no event changes the board.
+pub(crate) fn stepped(rec: FlatRecord, s: Stepped) -> FlatStepped
+    ensures { λ r. ⌜ r ≡ throughOf rec s ⌝ }
+{
+    let b = rec.board;
+    let next = s.rec;
+    let outcome = s.outcome;
+    FlatStepped {
+        rec: crate::records::flat_with(b, next),
+        answer: answer(outcome),
+    }
+}
+
+// The caller's part of this number; of another, none.
+fn caller(number: u64, x: Registers) -> Caller
+    ensures { λ c. ⌜ c ≡ callerIn number x ⌝ }
+{
+    match number {
+        RETURNED => Caller::Returned(x),
+        HELD => Caller::Held,
+        PRIME_STARTED => Caller::PrimeStarted,
+        ACTIVATION_STARTED => Caller::ActivationStarted,
+        GONE => Caller::Gone,
+        _ => Caller::Nothing,
+    }
+}
+
+// The release of this number; of another, nobody.
+fn release(number: u64, f: Freed) -> Release
+    ensures { λ l. ⌜ l ≡ releaseIn number f ⌝ }
+{
+    let cpus = f.cpus;
+    match number {
+        WITH_STATUS => Release::Returned(f),
+        BY_ENTRY => Release::Resumed(cpus),
+        _ => Release::Nobody,
+    }
+}
+
+// The record that an event with this answer leaves; one of zeros, which the writer refuses, where it leaves none.
+pub(crate) fn logged(e: FlatEvent, a: FlatAnswer) -> LogRecord
+    ensures { λ r. ⌜ r ≡ loggedIn e a ⌝ }
+{
+    let returned = a.returned;
+    let freed = a.freed;
+    if a.refusal != 0 {
+        return logbook::blank();
+    }
+    match event(e) {
+        Read::Unknown => logbook::blank(),
+        Read::Known(event) => trace::logged(
+            event,
+            Answer {
+                caller: caller(a.caller, returned),
+                release: release(a.release, freed),
+            },
+        ),
+    }
+}
+
+pub(crate) fn written(w: Written) -> FlatWritten
+    ensures { λ r. ⌜ r ≡ writtenBy w ⌝ }
+{
+    match w {
+        Written::Bytes(n) => FlatWritten {
+            refusal: 0,
+            bytes: n,
+        },
+        Written::Nothing(x) => FlatWritten {
+            refusal: log_record::number(x),
+            bytes: 0,
+        },
+    }
+}
+
+fn found(component: u64) -> FlatFound
+    ensures { λ f. ⌜ f ≡ foundOf component ⌝ }
+{
+    FlatFound {
+        found: 1,
+        component: component,
+    }
+}
+
+fn not_found() -> FlatFound
+    ensures { λ f. ⌜ f ≡ notFound ⌝ }
+{
+    FlatFound {
+        found: 0,
+        component: 0,
+    }
+}
+
+fn primed(p: Primed) -> FlatFound
+    ensures { λ f. ⌜ f ≡ primedFound p ⌝ }
+{
+    match p {
+        Primed::Nothing => not_found(),
+        Primed::Of(c) => found(c),
+    }
+}
+
+fn begun(s: Started) -> FlatFound
+    ensures { λ f. ⌜ f ≡ startedFound s ⌝ }
+{
+    match s {
+        Started::Nothing => not_found(),
+        Started::Of(c) => found(c),
+    }
+}
+
+pub(crate) fn prepared(a: logbook::Answer) -> FlatPrepared
+    ensures { λ r. ⌜ r ≡ preparedBy a ⌝ }
+{
+    match a {
+        logbook::Answer::Found(p) => {
+            let which = p.primed;
+            FlatPrepared {
+                refusal: 0,
+                place: 0,
+                prepared: primed(which),
+                looked: p.looked,
+            }
+        }
+        logbook::Answer::Refused(f) => {
+            let x = f.refusal;
+            FlatPrepared {
+                refusal: log_record::number(x),
+                place: f.place,
+                prepared: not_found(),
+                looked: 0,
+            }
+        }
+    }
+}
+
+fn not_started(number: u64, place: usize) -> FlatStarted
+    ensures { λ r. ⌜ r ≡ notStarted number place ⌝ }
+{
+    FlatStarted {
+        refusal: number,
+        place: place,
+        started: not_found(),
+    }
+}
+
+fn log_refused(f: Flaw) -> FlatStarted
+    ensures { λ r. ⌜ r ≡ logRefused f ⌝ }
+{
+    let x = f.refusal;
+    not_started(log_record::number(x), f.place)
+}
+
+pub(crate) fn started(a: reader::Answer) -> FlatStarted
+    ensures { λ r. ⌜ r ≡ startedBy a ⌝ }
+{
+    match a {
+        reader::Answer::Found(s) => FlatStarted {
+            refusal: 0,
+            place: 0,
+            started: begun(s),
+        },
+        reader::Answer::BoardRefused(x) => not_started(board::number(x), 0),
+        reader::Answer::LogRefused(f) => log_refused(f),
+    }
+}

@@ -1,0 +1,198 @@
+// What crosses to a host: numbers, arrays of numbers, and structs of these. Whatever they hold, each gets a stated answer.
+mod answers;
+mod records;
+
+ghost use mathlib.Core.Path.{_≡_};
+ghost use lib.ListN.{length};
+ghost use Rattle.flat.specs.Calls.{freshIn, noEvent, stepOf, entriesOf, contextsOf, writtenOf, bufferOf, preparedIn, startedIn};
+use agent::Freed;
+use board::MOST_COMPONENTS;
+use board::MOST_CPUS;
+use board::UUID_BYTES;
+use board_record::Record;
+use codes::Call;
+use cpuset::CpuSet;
+use rules::Image;
+use rules::Registers;
+use rules::Report;
+
+// A component; a flag is 0 or 1.
+#[repr(C)]
+pub struct FlatComponent {
+    pub uuid: [u8; UUID_BYTES],
+    pub svn: u32,
+    pub capable: u8,
+    pub may_reset: u8,
+    pub optional: u8,
+}
+
+#[repr(C)]
+pub struct FlatBoard {
+    pub components: u64,
+    pub cpus: u64,
+    pub first: u64,
+    pub last: u64,
+    pub component: [FlatComponent; MOST_COMPONENTS],
+}
+
+// A board's record. The state is a number from 0 (idle) to 8 (dead), in the order of document 01's table of rules; subject is
+// its component, and 0 in idle and dead.
+#[repr(C)]
+pub struct FlatRecord {
+    pub board: FlatBoard,
+    pub pending: [u8; MOST_COMPONENTS],
+    pub version: [u32; MOST_COMPONENTS],
+    pub state: u64,
+    pub subject: u64,
+    pub on: CpuSet,
+    pub held: CpuSet,
+    pub entry: [u64; MOST_CPUS],
+    pub context: [u64; MOST_CPUS],
+    pub informed: u64,
+}
+
+// An event: its kind, as the log numbers them, says which of the three counts.
+#[repr(C)]
+pub struct FlatEvent {
+    pub kind: u64,
+    pub call: Call,
+    pub report: Report,
+    pub image: Image,
+}
+
+// An answer: 0 or the number of the refusal; then the caller's part, as the log numbers outcomes, 0 where there is none, with
+// X0 to X3; then the release, 0 for nobody, 1 with X0 and X1, 2 by entry address, and the CPUs.
+#[repr(C)]
+pub struct FlatAnswer {
+    pub refusal: u64,
+    pub caller: u64,
+    pub returned: Registers,
+    pub release: u64,
+    pub freed: Freed,
+}
+
+// The record after an event, and the answer.
+#[repr(C)]
+pub struct FlatStepped {
+    pub rec: FlatRecord,
+    pub answer: FlatAnswer,
+}
+
+// A fresh record, or the number of the refusal and zeros.
+#[repr(C)]
+pub struct FlatFresh {
+    pub refusal: u64,
+    pub rec: FlatRecord,
+}
+
+// How many bytes were written, or the number of the refusal and 0.
+#[repr(C)]
+pub struct FlatWritten {
+    pub refusal: u64,
+    pub bytes: usize,
+}
+
+// A component, where found is 1; both are 0 where there is none.
+#[repr(C)]
+pub struct FlatFound {
+    pub found: u64,
+    pub component: u64,
+}
+
+// What is prepared, with how many records were looked at; or the number of a refusal and the place of the record to blame.
+#[repr(C)]
+pub struct FlatPrepared {
+    pub refusal: u64,
+    pub place: usize,
+    pub prepared: FlatFound,
+    pub looked: usize,
+}
+
+// What starts; or the number of a refusal and the place of the record to blame.
+#[repr(C)]
+pub struct FlatStarted {
+    pub refusal: u64,
+    pub place: usize,
+    pub started: FlatFound,
+}
+
+// The record of a board that was just switched on, from its packed description.
+pub fn fresh(board: &[u8]) -> FlatFresh
+    ensures { λ r. ⌜ r ≡ freshIn (now (board .entry)) ⌝ }
+{
+    let read = board::read_board(board);
+    let verdict = read.verdict;
+    let b = read.board;
+    match verdict {
+        board::Verdict::Accepted => FlatFresh {
+            refusal: 0,
+            rec: records::flat(board_record::fresh(b)),
+        },
+        board::Verdict::Refused(x) => FlatFresh {
+            refusal: board::number(x),
+            rec: records::zeros(),
+        },
+    }
+}
+
+// The refusal of an event that is none of the four.
+fn no_event(rec: Record, entries: usize, contexts: usize) -> u64
+    ensures { λ r. ⌜ r ≡ noEvent rec entries contexts ⌝ }
+{
+    let cpus = rec.board.cpus;
+    if board_record::is_well_formed(rec) {
+        if (entries as u64) < cpus {
+            return rules::number(rules::Refusal::TableShort);
+        }
+        if (contexts as u64) < cpus {
+            return rules::number(rules::Refusal::TableShort);
+        }
+        return log_record::number(log_record::Refusal::Unknown);
+    }
+    rules::number(rules::Refusal::NotWellFormed)
+}
+
+// One event. In the two tables only the places of CPUs that resume by entry are written.
+pub fn step(f: FlatRecord, e: FlatEvent, entries: &mut [u64], contexts: &mut [u64]) -> FlatStepped
+    ensures { λ r. ⌜ r ≡ stepOf f e (length (now (entries .entry))) (length (now (contexts .entry))) ⌝ }
+    ensures { λ r. ⌜ now (entries .exit) ≡ entriesOf f e (now (entries .entry)) (now (contexts .entry)) ⌝ }
+    ensures { λ r. ⌜ now (contexts .exit) ≡ contextsOf f e (now (entries .entry)) (now (contexts .entry)) ⌝ }
+{
+    if records::is_flat(f) {
+        let rec = records::record(f);
+        match answers::event(e) {
+            answers::Read::Known(event) => {
+                let s = agent::step(rec, event, entries, contexts);
+                answers::stepped(f, s)
+            }
+            answers::Read::Unknown => {
+                let number = no_event(rec, entries.len(), contexts.len());
+                answers::refused(f, number)
+            }
+        }
+    } else {
+        answers::refused(f, rules::number(rules::Refusal::NotWellFormed))
+    }
+}
+
+// Writes the log record of an accepted event at the start of the buffer; bytes not written stay.
+pub fn log(buf: &mut [u8], e: FlatEvent, a: FlatAnswer) -> FlatWritten
+    ensures { λ w. ⌜ w ≡ writtenOf (length (now (buf .entry))) e a ⌝ }
+    ensures { λ _. ⌜ now (buf .exit) ≡ bufferOf (now (buf .entry)) e a ⌝ }
+{
+    answers::written(log_record::put_record(buf, answers::logged(e, a)))
+}
+
+// Which component is prepared at a place of a log.
+pub fn prepared(log: &[u8], place: usize) -> FlatPrepared
+    ensures { λ r. ⌜ r ≡ preparedIn (now (log .entry)) place ⌝ }
+{
+    answers::prepared(logbook::prepared_at(log, place))
+}
+
+// The component whose rendezvous activation starts at a call made at a place of a log.
+pub fn starts(board: &[u8], log: &[u8], place: usize, call: Call) -> FlatStarted
+    ensures { λ r. ⌜ r ≡ startedIn (now (board .entry)) (now (log .entry)) place call ⌝ }
+{
+    answers::started(reader::starts_at(board, log, place, call))
+}

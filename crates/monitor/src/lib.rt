@@ -1,0 +1,63 @@
+// What a host links: C functions with the prefix lfa_. host/lfa.h says them in C.
+ghost use mathlib.Core.Path.{_≡_};
+ghost use lib.ListN.{length};
+ghost use Rattle.flat.specs.Calls.{freshIn, stepOf, entriesOf, contextsOf, writtenOf, bufferOf, preparedIn, startedIn};
+use codes::Call;
+use flat::FlatAnswer;
+use flat::FlatEvent;
+use flat::FlatFresh;
+use flat::FlatPrepared;
+use flat::FlatRecord;
+use flat::FlatStarted;
+use flat::FlatWritten;
+
+// The record of a board that was just switched on, from its packed description.
+#[no_mangle]
+pub extern "C" fn lfa_fresh(board: &[u8]) -> FlatFresh
+    ensures { λ r. ⌜ r ≡ freshIn (now (board .entry)) ⌝ }
+{
+    flat::fresh(board)
+}
+
+// One event on the record that the host lends. In the two tables only the places of CPUs that resume by entry are written.
+#[no_mangle]
+pub extern "C" fn lfa_step(
+    rec: &mut FlatRecord,
+    e: FlatEvent,
+    entries: &mut [u64],
+    contexts: &mut [u64],
+) -> FlatAnswer
+    ensures { λ r. ⌜ r ≡ stepOf (now (rec .entry)) e (length (now (entries .entry))) (length (now (contexts .entry))) .answer ⌝ }
+    ensures { λ r. ⌜ now (rec .exit) ≡ stepOf (now (rec .entry)) e (length (now (entries .entry))) (length (now (contexts .entry))) .rec ⌝ }
+    ensures { λ r. ⌜ now (entries .exit) ≡ entriesOf (now (rec .entry)) e (now (entries .entry)) (now (contexts .entry)) ⌝ }
+    ensures { λ r. ⌜ now (contexts .exit) ≡ contextsOf (now (rec .entry)) e (now (entries .entry)) (now (contexts .entry)) ⌝ }
+{
+    let s = flat::step(*rec, e, entries, contexts);
+    *rec = s.rec;
+    s.answer
+}
+
+// Writes the log record of an accepted event at the start of the buffer; bytes not written stay.
+#[no_mangle]
+pub extern "C" fn lfa_log(buf: &mut [u8], e: FlatEvent, a: FlatAnswer) -> FlatWritten
+    ensures { λ w. ⌜ w ≡ writtenOf (length (now (buf .entry))) e a ⌝ }
+    ensures { λ _. ⌜ now (buf .exit) ≡ bufferOf (now (buf .entry)) e a ⌝ }
+{
+    flat::log(buf, e, a)
+}
+
+// Which component is prepared at a place of a log.
+#[no_mangle]
+pub extern "C" fn lfa_prepared(log: &[u8], place: usize) -> FlatPrepared
+    ensures { λ r. ⌜ r ≡ preparedIn (now (log .entry)) place ⌝ }
+{
+    flat::prepared(log, place)
+}
+
+// The component whose rendezvous activation starts at a call made at a place of a log.
+#[no_mangle]
+pub extern "C" fn lfa_starts(board: &[u8], log: &[u8], place: usize, call: Call) -> FlatStarted
+    ensures { λ r. ⌜ r ≡ startedIn (now (board .entry)) (now (log .entry)) place call ⌝ }
+{
+    flat::starts(board, log, place, call)
+}

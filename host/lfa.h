@@ -1,0 +1,324 @@
+/*
+ * The live firmware activation agent, as a host links it: a board's record, one event at a time, the log, and two questions
+ * that a log answers. The rules are document 01's; C99, and C++ as well.
+ *
+ * All that crosses is numbers, arrays of numbers, and structs of these. Whatever they hold, the answer is a stated one: nothing
+ * here aborts, allocates or keeps anything between two calls. The library calls memcpy and memset and nothing else; lfa_step
+ * takes some 16 KB of stack.
+ *
+ * What the host owes:
+ * - It is a 64-bit host (x86-64), where size_t has 8 bytes.
+ * - A pointer is aligned, and valid for the length that comes with it; where that is 0 it may be null. A record's pointer is
+ *   never null.
+ * - The record is writable, even where the event is refused: it is stored again as it was.
+ * - The record, the two tables and the buffers that a call is lent do not overlap.
+ * - One call at a time for a record: the library takes no lock.
+ *
+ * Bytes between the fields of a struct (padding) are never looked at, and may change.
+ */
+#ifndef LFA_H
+#define LFA_H
+
+#include <stddef.h>
+#include <stdint.h>
+
+#ifdef __cplusplus
+extern "C" {
+#endif
+
+/* ---- Limits ---- */
+
+enum lfa_limit {
+    LFA_MOST_COMPONENTS = 32,   /* components that a board has at most */
+    LFA_MOST_CPUS = 64,         /* CPUs that a board has at most */
+    LFA_UUID_BYTES = 16,        /* bytes of a UUID */
+    LFA_LOG_RECORD_BYTES = 51,  /* bytes of a log record */
+    LFA_MOST_LOG_RECORDS = 1024 /* records that a log has at most */
+};
+
+/* The length of a board description with n components. */
+#define LFA_BOARD_BYTES(n) (18 + 21 * (n))
+
+/* ---- Function numbers: the low 32 bits of a call's X0 ---- */
+
+#define LFA_FUNCTION_VERSION UINT64_C(0xC40002E0)       /* X0 is 65536 */
+#define LFA_FUNCTION_FEATURES UINT64_C(0xC40002E1)      /* X1 function number */
+#define LFA_FUNCTION_GET_INFO UINT64_C(0xC40002E2)      /* X1 selector, 0 */
+#define LFA_FUNCTION_GET_INVENTORY UINT64_C(0xC40002E3) /* X1 component */
+#define LFA_FUNCTION_PRIME UINT64_C(0xC40002E4)         /* X1 component */
+#define LFA_FUNCTION_ACTIVATE UINT64_C(0xC40002E5)      /* X1 component, X2 flags, X3 entry, X4 context id */
+#define LFA_FUNCTION_CANCEL UINT64_C(0xC40002E6)        /* X1 component */
+#define LFA_FUNCTION_CPU_OFF UINT64_C(0x84000002)
+#define LFA_FUNCTION_CPU_ON UINT64_C(0xC4000003)        /* X1 target CPU, X2 entry, X3 context id */
+
+/* Bit 0 of ACTIVATE's flags: skip the rendezvous. */
+#define LFA_SKIP UINT64_C(1)
+
+/* The status -k, as X0 has it. */
+#define LFA_STATUS(k) (UINT64_C(0) - (uint64_t)(k))
+
+/* The flags that GET_INVENTORY gives in X3. */
+enum lfa_inventory_flag {
+    LFA_INVENTORY_CAPABLE = 1,
+    LFA_INVENTORY_PENDING = 2,
+    LFA_INVENTORY_MAY_RESET = 4,
+    LFA_INVENTORY_OPTIONAL = 8
+};
+
+/* ---- Numbers of events and answers ---- */
+
+/* The kinds of events, as the log numbers them. */
+enum lfa_kind {
+    LFA_KIND_CALL = 1,
+    LFA_KIND_PRIME_REPORT = 2,
+    LFA_KIND_ACTIVATE_REPORT = 3,
+    LFA_KIND_IMAGE = 4
+};
+
+/* The codes of reports that are no status; every other is a status without its sign. */
+enum lfa_code {
+    LFA_CODE_DONE = 0,
+    LFA_CODE_AGAIN = 1,    /* call again */
+    LFA_CODE_BY_RESET = 12 /* done by reset; activate reports in together with may_reset only */
+};
+
+/* The caller's part of an answer, as the log numbers outcomes. */
+enum lfa_caller {
+    LFA_CALLER_NONE = 0,               /* a report or an image: there is no caller */
+    LFA_CALLER_RETURNED = 1,           /* the caller goes on with X0 to X3 */
+    LFA_CALLER_HELD = 2,               /* the caller waits for the others */
+    LFA_CALLER_PRIME_STARTED = 3,      /* prime starts, and the caller is held */
+    LFA_CALLER_ACTIVATION_STARTED = 4, /* activation starts, and the caller is held */
+    LFA_CALLER_GONE = 5                /* the caller is off */
+};
+
+/* The release part of an answer. */
+enum lfa_release {
+    LFA_RELEASE_NOBODY = 0,
+    LFA_RELEASE_WITH_STATUS = 1, /* a set of CPUs, each with the same X0 and X1 */
+    LFA_RELEASE_BY_ENTRY = 2     /* a set of CPUs, each at its entry address with its context id: see the two tables */
+};
+
+/* The states of a board, in the order of document 01's table of rules. */
+enum lfa_state {
+    LFA_STATE_IDLE = 0,
+    LFA_STATE_PREPARING = 1, /* a prime job runs */
+    LFA_STATE_HALF_PREPARED = 2,
+    LFA_STATE_READY = 3,
+    LFA_STATE_GATHERING = 4,
+    LFA_STATE_TOGETHER = 5,  /* an activate job runs, all powered CPUs held */
+    LFA_STATE_ALONE = 6,     /* an activate job runs without rendezvous */
+    LFA_STATE_HALF_ACTIVATED = 7,
+    LFA_STATE_DEAD = 8
+};
+
+/*
+ * The numbers of the refusals. The first that applies is given; for events that is 9, then 1, then 32 for an unknown kind or
+ * the rest. A refusal comes with nothing else and changes nothing lent.
+ *
+ * 31: component over 31, version of 2^32 or more or, when writing, CPU over 63. Document 01's 26, 27 and 30 are never given
+ * here: 26 and 27 belong to writing a board, which no function here does, and 33 comes before 30.
+ */
+enum lfa_refusal {
+    LFA_REFUSAL_NONE = 0,             /* not refused */
+    LFA_REFUSAL_SHORT_TABLE = 1,      /* a resume table is shorter than the CPU count */
+    LFA_REFUSAL_NO_SUCH_CPU = 2,      /* call: no such CPU */
+    LFA_REFUSAL_CPU_OFF = 3,          /* call: CPU off */
+    LFA_REFUSAL_CPU_HELD = 4,         /* call: CPU held */
+    LFA_REFUSAL_NO_JOB = 5,           /* report: no job of that kind running for that component */
+    LFA_REFUSAL_CODE = 6,             /* report: code not allowed for it */
+    LFA_REFUSAL_COMPONENT = 7,        /* image: no such or not capable component */
+    LFA_REFUSAL_IN_USE = 8,           /* image: it is the state's component */
+    LFA_REFUSAL_NOT_WELL_FORMED = 9,  /* record not well formed */
+    LFA_REFUSAL_BOARD_TOO_SHORT = 20, /* board: too short (under 2 bytes too) */
+    LFA_REFUSAL_BOARD_TOO_LONG = 21,  /* board: too long */
+    LFA_REFUSAL_RESERVED_BIT = 22,    /* board: reserved bit set */
+    LFA_REFUSAL_RANGE = 23,           /* board: first > last */
+    LFA_REFUSAL_BOTH_FLAGS = 24,      /* board: optional with may_reset */
+    LFA_REFUSAL_UUID_TWICE = 25,      /* board: UUID twice */
+    LFA_REFUSAL_FIELD = 31,           /* log: unused field not 0, or a number too large for its field (above) */
+    LFA_REFUSAL_UNKNOWN = 32,         /* log: kind, outcome or code unknown; event: kind unknown */
+    LFA_REFUSAL_LOG = 33,             /* log length no multiple of 51, over 1,024 records, or place past its end */
+    LFA_REFUSAL_NO_ROOM = 34          /* no room for 51 bytes */
+};
+
+/* ---- The board and its record ---- */
+
+/* A set of CPUs. */
+struct lfa_cpus {
+    uint64_t bits; /* bit n is CPU n */
+};
+
+/* A component of the board; a flag is 0 or 1. */
+struct lfa_component {
+    uint8_t uuid[LFA_UUID_BYTES];
+    uint32_t svn;      /* the least image version that may be prepared */
+    uint8_t capable;   /* it can be activated live */
+    uint8_t may_reset; /* its activation may reset CPUs; never together with optional */
+    uint8_t optional;  /* its activation may skip the rendezvous */
+};
+
+/* What does not change about a board. */
+struct lfa_board {
+    uint64_t components; /* how many, 1 to 32 */
+    uint64_t cpus;       /* how many, 1 to 64 */
+    uint64_t first;      /* the first address that can be an entry */
+    uint64_t last;       /* the last one, at least first */
+    struct lfa_component component[LFA_MOST_COMPONENTS]; /* zeros past the count */
+};
+
+/*
+ * A board's record: lfa_fresh makes it, the host keeps it, lfa_step changes it in place.
+ *
+ * It may be copied, stored and brought back. Each event looks first whether it is well formed (document 01), which here also
+ * needs every flag to be 0 or 1, a state number up to 8, and subject 0 in idle and dead. If not: refusal 9, nothing changed.
+ */
+struct lfa_record {
+    struct lfa_board board;
+    uint8_t pending[LFA_MOST_COMPONENTS];  /* 1 where an image is pending */
+    uint32_t version[LFA_MOST_COMPONENTS]; /* the pending image's version, else 0 */
+    uint64_t state;                        /* an enum lfa_state */
+    uint64_t subject;                      /* the state's component; 0 in idle and dead */
+    struct lfa_cpus on;                    /* the powered CPUs */
+    struct lfa_cpus held;                  /* those that wait for a job or for others */
+    uint64_t entry[LFA_MOST_CPUS];         /* where a CPU that is held for ACTIVATE with may_reset resumes, else 0 */
+    uint64_t context[LFA_MOST_CPUS];       /* its context id, else 0 */
+    uint64_t informed;                     /* 1 where a GET_INFO is noted */
+};
+
+/* ---- Events ---- */
+
+/* A call: the CPU that makes it, and its registers. */
+struct lfa_call {
+    uint64_t cpu;
+    uint64_t x0; /* the low 32 bits are the function number */
+    uint64_t x1;
+    uint64_t x2;
+    uint64_t x3;
+    uint64_t x4;
+};
+
+/* The end of a job. */
+struct lfa_report {
+    uint64_t component;
+    uint64_t code; /* 0, 1, 12 (enum lfa_code), or a status without its sign */
+};
+
+/* An image that arrived. */
+struct lfa_image {
+    uint64_t component;
+    uint32_t version; /* its security version */
+};
+
+/* An event. The kind says which of the three parts counts; the others are ignored. */
+struct lfa_event {
+    uint64_t kind;            /* an enum lfa_kind */
+    struct lfa_call call;     /* LFA_KIND_CALL */
+    struct lfa_report report; /* LFA_KIND_PRIME_REPORT, LFA_KIND_ACTIVATE_REPORT */
+    struct lfa_image image;   /* LFA_KIND_IMAGE */
+};
+
+/* ---- Answers ---- */
+
+/* What a caller goes on with. */
+struct lfa_registers {
+    uint64_t x0;
+    uint64_t x1;
+    uint64_t x2;
+    uint64_t x3;
+};
+
+/* The CPUs that are released. */
+struct lfa_freed {
+    struct lfa_cpus cpus;
+    uint64_t x0; /* X0 of each; 0 by entry */
+    uint64_t x1; /* X1 of each; 0 by entry */
+};
+
+/* The answer to an event. A refused one has only the number of the refusal, and all else 0. */
+struct lfa_answer {
+    uint64_t refusal;              /* 0, or an enum lfa_refusal */
+    uint64_t caller;               /* an enum lfa_caller */
+    struct lfa_registers returned; /* all 0 but for LFA_CALLER_RETURNED */
+    uint64_t release;              /* an enum lfa_release */
+    struct lfa_freed freed;        /* all 0 for LFA_RELEASE_NOBODY */
+};
+
+/* The answer of lfa_fresh. In C++ the word struct stays, since the function has the same name. */
+struct lfa_fresh {
+    uint64_t refusal;      /* 0, or 20 to 25 */
+    struct lfa_record rec; /* all 0 if refused */
+};
+
+/* The answer of lfa_log. */
+struct lfa_written {
+    uint64_t refusal; /* 0, or 31, 32, 34 */
+    size_t bytes;     /* 51, or 0 if refused */
+};
+
+/* A component, or none. */
+struct lfa_found {
+    uint64_t found;     /* 1, or 0 where there is none */
+    uint64_t component; /* 0 where there is none */
+};
+
+/* The answer of lfa_prepared. In C++ the word struct stays, since the function has the same name. */
+struct lfa_prepared {
+    uint64_t refusal;          /* 0, or 31, 32, 33 */
+    size_t place;              /* if refused, the place of the record to blame; 0 with 33, and if not refused */
+    struct lfa_found prepared; /* none if refused */
+    size_t looked;             /* how many records were looked at, the deciding one included; 0 if refused */
+};
+
+/* The answer of lfa_starts. */
+struct lfa_started {
+    uint64_t refusal;         /* 0, or 20 to 25 for the board, or 31, 32, 33 for the log */
+    size_t place;             /* if the log is refused, as in lfa_prepared; else 0 */
+    struct lfa_found started; /* none if refused */
+};
+
+/* ---- Functions ---- */
+
+/*
+ * The record of a board that was just switched on: CPU 0 on, the others off, nothing pending, idle. board is the packed
+ * description: count of components less 1 (5 bits), of CPUs less 1 (6), zero (5), first (64), last (64); then per component
+ * UUID bytes, capable, may_reset, optional (1 each), zero (5), SVN (32); most significant bit first.
+ */
+struct lfa_fresh lfa_fresh(const uint8_t *board, size_t board_length);
+
+/*
+ * One event. An accepted one changes the record in place; of CPUs that resume by entry, the places in the two tables get entry
+ * address and context id, and every other place stays. Both tables are as long as the board has CPUs, or longer.
+ *
+ * A refused one changes neither the record nor the tables: 9 for a record that is not well formed, flags and state number
+ * included; then 1 for a short table, whether or not a CPU would resume; then 32 for a kind that is none of the four, else 2
+ * to 8.
+ */
+struct lfa_answer lfa_step(struct lfa_record *rec, struct lfa_event e, uint64_t *entries, size_t entries_length,
+                           uint64_t *contexts, size_t contexts_length);
+
+/*
+ * Writes the 51 bytes of an accepted event's log record at the start of buf; bytes not written stay. a is the answer that
+ * lfa_step gave to e. A refused answer, an event of unknown kind and a call without caller's part leave no record: 32, and
+ * nothing is written. Then 31 where a number has no room in its field, and 34 where buf is shorter than 51 bytes.
+ */
+struct lfa_written lfa_log(uint8_t *buf, size_t buf_length, struct lfa_event e, struct lfa_answer a);
+
+/*
+ * Which component is prepared at a place of a log: after that many of its records. 33 where the bytes are no log or the place
+ * is past its end; else the refusal of the first bad record, wherever it is.
+ */
+struct lfa_prepared lfa_prepared(const uint8_t *log, size_t log_length, size_t place);
+
+/*
+ * The component whose rendezvous activation starts if the call is made at a place of a log, from the board description, the
+ * log and the call alone. A refusal of the board comes first, with place 0; those of the log are as in lfa_prepared.
+ */
+struct lfa_started lfa_starts(const uint8_t *board, size_t board_length, const uint8_t *log, size_t log_length, size_t place,
+                              struct lfa_call call);
+
+#ifdef __cplusplus
+}
+#endif
+
+#endif

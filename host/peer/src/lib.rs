@@ -1,0 +1,79 @@
+//! An agent for live firmware activation: a board's record, the events that
+//! change it, and the log of those events.
+//!
+//! [`Record::step`] takes one event. [`logged`] makes the log record of an
+//! accepted one. [`prepared_at`] and [`starts_at`] answer questions from a log
+//! alone.
+//!
+//! # Open points
+//!
+//! What the document leaves open, and what is done here.
+//!
+//! Events:
+//! - Refusal 1 is given for any event with a short table, even one that could
+//!   not resume a CPU; both tables count.
+//! - Refusal 6 goes by the running job: code 12 in alone, or in together
+//!   without may_reset, and code 1 in together are refused.
+//! - A successful CPU_ON answers X0 = 0 to the caller and, in the release
+//!   part, the target as the one CPU that resumes.
+//! - A CANCEL that finds no CPU held releases nobody, not an empty set.
+//! - A good entry is judged by its address alone: the bytes after it need not
+//!   be in the range.
+//! - A successful activation leaves the component's SVN as it is.
+//! - PRIME in a state of the -2 or -7 rows gives that status for any id, and
+//!   so does ACTIVATE in the -7 rows, even for an id that is no component.
+//! - A dead board answers all other calls, and takes images, as an idle one.
+//!
+//! Records:
+//! - A noted GET_INFO fits any state.
+//! - Context ids of held CPUs may be anything, where they are kept.
+//! - SVNs and UUIDs of components within the count may be 0.
+//!
+//! Log records:
+//! - Word 6 is used by outcome 1 and 6, whatever the code, and is not compared
+//!   with it.
+//! - The CPU of a report or an image is an unused field. So are the six
+//!   reserved bits when reading.
+//! - A call's outcome is not compared with its function number.
+//! - [`logged`] takes the answer that [`Record::step`] gave. For a call with
+//!   an answer that has no caller's part it gives outcome 0, which the writer
+//!   refuses with 32; a report without a release gets word 6 = 0.
+//!
+//! Log questions:
+//! - Without a deciding record before the place, all records before it were
+//!   looked at, and none is prepared.
+//! - A bad record is found anywhere in the log, after the place too.
+//! - [`starts_at`] gives a board's refusal with place 0.
+//! - Only logs that no agent writes are touched by the rest. What becomes of a
+//!   caller goes by the outcome alone: held and activation started hold it for
+//!   ACTIVATE, prime started for PRIME, gone powers it off. A CPU_ON that
+//!   returned 0 powers its target, one of 64, whatever the board. An activation
+//!   without rendezvous is an outcome 4 with bit 0 of X2 set. A prepared
+//!   component that the board does not have never starts. One that it has need
+//!   not be capable, since a log is taken at its word.
+//!
+//! Of logs that no agent writes, four points follow the project's own choices
+//! (docs/DECISIONS.md), so that on them the comparison with the library is no
+//! independent evidence: word 6 goes by the outcome alone; so does what becomes
+//! of a caller; CPU_ON powers any of 64 CPUs; and skip is bit 0 of X2 of an
+//! outcome 4, whatever the function.
+
+mod answer;
+mod board;
+mod event;
+mod log;
+mod reader;
+mod record;
+mod refusal;
+mod step;
+
+pub use answer::{status, Answer, Caller, Release};
+pub use board::{Board, Component, MAX_COMPONENTS, MAX_CPUS};
+pub use event::{Call, Event, Function, Image, Report};
+pub use log::{
+    logged, prepared_at, Flaw, Log, LogRecord, Prepared, ACTIVATE, ACTIVATION_STARTED, CALL, GONE,
+    HELD, IMAGE, MAX_RECORDS, NOTED, PRIME, PRIME_STARTED, RECORD_BYTES, RELEASED, RETURNED,
+};
+pub use reader::{held_at, powered_at, reading_at, starts_at, Reading};
+pub use record::{Record, State};
+pub use refusal::Refusal;

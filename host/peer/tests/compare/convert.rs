@@ -1,0 +1,357 @@
+//! Between the peer's types and the library's flat ones.
+
+use lfa::flat;
+use peer::*;
+
+/// The refusal of a record that is not well formed, given before all others.
+pub const NOT_WELL_FORMED: u64 = 9;
+/// The refusal of a table that is too short.
+pub const SHORT_TABLE: u64 = 1;
+/// The refusal of an event of an unknown kind.
+const UNKNOWN_KIND: u64 = 32;
+
+/// The refusal of an event of an unknown kind where one of a known kind has
+/// this refusal, or 0: the two that look at no kind come first.
+pub fn unknown_refusal(known: u64) -> u64 {
+    match known {
+        NOT_WELL_FORMED | SHORT_TABLE => known,
+        _ => UNKNOWN_KIND,
+    }
+}
+
+/// The number of a state and its component, 0 where it has none.
+fn state_numbers(state: State) -> (u64, u64) {
+    match state {
+        State::Idle => (0, 0),
+        State::Preparing(id) => (1, id),
+        State::HalfPrepared(id) => (2, id),
+        State::Ready(id) => (3, id),
+        State::Gathering(id) => (4, id),
+        State::Together(id) => (5, id),
+        State::Alone(id) => (6, id),
+        State::HalfActivated(id) => (7, id),
+        State::Dead => (8, 0),
+    }
+}
+
+/// The state of these numbers, if there is one.
+fn state(number: u64, subject: u64) -> Option<State> {
+    Some(match number {
+        0 if subject == 0 => State::Idle,
+        1 => State::Preparing(subject),
+        2 => State::HalfPrepared(subject),
+        3 => State::Ready(subject),
+        4 => State::Gathering(subject),
+        5 => State::Together(subject),
+        6 => State::Alone(subject),
+        7 => State::HalfActivated(subject),
+        8 if subject == 0 => State::Dead,
+        _ => return None,
+    })
+}
+
+/// The number of a state.
+pub fn state_number(state: State) -> usize {
+    state_numbers(state).0 as usize
+}
+
+fn flat_component(component: &Component) -> flat::Component {
+    flat::Component {
+        uuid: component.uuid,
+        svn: component.svn,
+        capable: component.capable.into(),
+        may_reset: component.may_reset.into(),
+        optional: component.optional.into(),
+    }
+}
+
+fn flat_board(board: &Board) -> flat::Board {
+    flat::Board {
+        components: board.components,
+        cpus: board.cpus,
+        first: board.first,
+        last: board.last,
+        component: board.component.each_ref().map(flat_component),
+    }
+}
+
+pub fn flat_record(record: &Record) -> flat::Record {
+    let (state, subject) = state_numbers(record.state);
+    flat::Record {
+        board: flat_board(&record.board),
+        pending: record.pending.map(u8::from),
+        version: record.version,
+        state,
+        subject,
+        on: flat::Cpus { bits: record.on },
+        held: flat::Cpus { bits: record.held },
+        entry: record.entry,
+        context: record.context,
+        informed: record.informed.into(),
+    }
+}
+
+/// A flag, if the number is one.
+fn flag(number: impl Into<u64>) -> Option<bool> {
+    match number.into() {
+        0 => Some(false),
+        1 => Some(true),
+        _ => None,
+    }
+}
+
+fn peer_component(component: &flat::Component) -> Option<Component> {
+    Some(Component {
+        uuid: component.uuid,
+        capable: flag(component.capable)?,
+        may_reset: flag(component.may_reset)?,
+        optional: flag(component.optional)?,
+        svn: component.svn,
+    })
+}
+
+/// The peer's record, unless its types cannot hold what the flat one says.
+pub fn peer_record(record: &flat::Record) -> Option<Record> {
+    let mut component = [Component::default(); MAX_COMPONENTS];
+    let mut pending = [false; MAX_COMPONENTS];
+    for place in 0..MAX_COMPONENTS {
+        component[place] = peer_component(&record.board.component[place])?;
+        pending[place] = flag(record.pending[place])?;
+    }
+    Some(Record {
+        board: Board {
+            components: record.board.components,
+            cpus: record.board.cpus,
+            first: record.board.first,
+            last: record.board.last,
+            component,
+        },
+        pending,
+        version: record.version,
+        state: state(record.state, record.subject)?,
+        on: record.on.bits,
+        held: record.held.bits,
+        entry: record.entry,
+        context: record.context,
+        informed: flag(record.informed)?,
+    })
+}
+
+/// A record with nothing in it, as it comes with a refused board.
+fn zero_record() -> flat::Record {
+    flat::Record {
+        board: flat::Board {
+            components: 0,
+            cpus: 0,
+            first: 0,
+            last: 0,
+            component: Default::default(),
+        },
+        pending: [0; MAX_COMPONENTS],
+        version: [0; MAX_COMPONENTS],
+        state: 0,
+        subject: 0,
+        on: flat::Cpus { bits: 0 },
+        held: flat::Cpus { bits: 0 },
+        entry: [0; MAX_CPUS],
+        context: [0; MAX_CPUS],
+        informed: 0,
+    }
+}
+
+pub fn flat_fresh(board: Result<Board, Refusal>) -> flat::Fresh {
+    match board {
+        Ok(board) => flat::Fresh {
+            refusal: 0,
+            rec: flat_record(&Record::fresh(board)),
+        },
+        Err(refusal) => flat::Fresh {
+            refusal: refusal.number(),
+            rec: zero_record(),
+        },
+    }
+}
+
+pub fn flat_call(call: &Call) -> flat::Call {
+    flat::Call {
+        cpu: call.cpu,
+        x0: call.x0,
+        x1: call.x1,
+        x2: call.x2,
+        x3: call.x3,
+        x4: call.x4,
+    }
+}
+
+fn flat_report(report: &Report) -> flat::Report {
+    flat::Report {
+        component: report.component,
+        code: report.code,
+    }
+}
+
+/// The event, with the fields that its kind does not name left as they are in
+/// `rest`.
+pub fn flat_event(event: &Event, rest: flat::Event) -> flat::Event {
+    match event {
+        Event::Call(call) => flat::Event {
+            kind: CALL,
+            call: flat_call(call),
+            ..rest
+        },
+        Event::Prime(report) => flat::Event {
+            kind: PRIME,
+            report: flat_report(report),
+            ..rest
+        },
+        Event::Activate(report) => flat::Event {
+            kind: ACTIVATE,
+            report: flat_report(report),
+            ..rest
+        },
+        Event::Image(image) => flat::Event {
+            kind: IMAGE,
+            image: flat::Image {
+                component: image.component,
+                version: image.version,
+            },
+            ..rest
+        },
+    }
+}
+
+/// The peer's event, if the kind is known.
+pub fn peer_event(event: &flat::Event) -> Option<Event> {
+    let report = Report {
+        component: event.report.component,
+        code: event.report.code,
+    };
+    Some(match event.kind {
+        CALL => Event::Call(Call {
+            cpu: event.call.cpu,
+            x0: event.call.x0,
+            x1: event.call.x1,
+            x2: event.call.x2,
+            x3: event.call.x3,
+            x4: event.call.x4,
+        }),
+        PRIME => Event::Prime(report),
+        ACTIVATE => Event::Activate(report),
+        IMAGE => Event::Image(Image {
+            component: event.image.component,
+            version: event.image.version,
+        }),
+        _ => return None,
+    })
+}
+
+/// A refused answer: its number and nothing else.
+pub fn flat_refused(refusal: u64) -> flat::Answer {
+    flat::Answer {
+        refusal,
+        ..flat::Answer::default()
+    }
+}
+
+fn flat_freed(cpus: u64, x0: u64, x1: u64) -> flat::Freed {
+    flat::Freed {
+        cpus: flat::Cpus { bits: cpus },
+        x0,
+        x1,
+    }
+}
+
+pub fn flat_answer(answer: &Result<Answer, Refusal>) -> flat::Answer {
+    let answer = match answer {
+        Ok(answer) => answer,
+        Err(refusal) => return flat_refused(refusal.number()),
+    };
+    let (caller, [x0, x1, x2, x3]) = match answer.caller {
+        Caller::Nothing => (0, [0; 4]),
+        Caller::Returned(registers) => (1, registers),
+        Caller::Held => (2, [0; 4]),
+        Caller::PrimeStarted => (3, [0; 4]),
+        Caller::ActivationStarted => (4, [0; 4]),
+        Caller::Gone => (5, [0; 4]),
+    };
+    let (release, freed) = match answer.release {
+        Release::Nobody => (0, flat::Freed::default()),
+        Release::Returned { cpus, x0, x1 } => (1, flat_freed(cpus, x0, x1)),
+        Release::Resumed(cpus) => (2, flat_freed(cpus, 0, 0)),
+    };
+    flat::Answer {
+        refusal: 0,
+        caller,
+        returned: flat::Registers { x0, x1, x2, x3 },
+        release,
+        freed,
+    }
+}
+
+/// The peer's answer, if the flat one is accepted. A part of an unknown number
+/// is none: the log of a call without a caller's part is refused anyway.
+pub fn peer_answer(answer: &flat::Answer) -> Option<Answer> {
+    let flat::Registers { x0, x1, x2, x3 } = answer.returned;
+    let caller = match answer.caller {
+        1 => Caller::Returned([x0, x1, x2, x3]),
+        2 => Caller::Held,
+        3 => Caller::PrimeStarted,
+        4 => Caller::ActivationStarted,
+        5 => Caller::Gone,
+        _ => Caller::Nothing,
+    };
+    let flat::Freed { cpus, x0, x1 } = answer.freed;
+    let cpus = cpus.bits;
+    let release = match answer.release {
+        1 => Release::Returned { cpus, x0, x1 },
+        2 => Release::Resumed(cpus),
+        _ => Release::Nobody,
+    };
+    (answer.refusal == 0).then_some(Answer { caller, release })
+}
+
+pub fn flat_written(written: Result<usize, Refusal>) -> flat::Written {
+    match written {
+        Ok(bytes) => flat::Written { refusal: 0, bytes },
+        Err(refusal) => flat::Written {
+            refusal: refusal.number(),
+            bytes: 0,
+        },
+    }
+}
+
+fn flat_found(found: Option<u64>) -> flat::Found {
+    flat::Found {
+        found: found.is_some().into(),
+        component: found.unwrap_or(0),
+    }
+}
+
+pub fn flat_prepared(prepared: Result<Prepared, Flaw>) -> flat::Prepared {
+    match prepared {
+        Ok(prepared) => flat::Prepared {
+            prepared: flat_found(prepared.component),
+            looked: prepared.looked,
+            ..flat::Prepared::default()
+        },
+        Err(flaw) => flat::Prepared {
+            refusal: flaw.refusal.number(),
+            place: flaw.place,
+            ..flat::Prepared::default()
+        },
+    }
+}
+
+pub fn flat_started(started: Result<Option<u64>, Flaw>) -> flat::Started {
+    match started {
+        Ok(started) => flat::Started {
+            started: flat_found(started),
+            ..flat::Started::default()
+        },
+        Err(flaw) => flat::Started {
+            refusal: flaw.refusal.number(),
+            place: flaw.place,
+            ..flat::Started::default()
+        },
+    }
+}

@@ -1,0 +1,231 @@
+//! One step, log record or question on both sides, and that they agree.
+
+use crate::convert::*;
+use crate::dice::Dice;
+use crate::generate::{any_call, junk_event};
+use lfa::flat;
+use peer::*;
+
+/// Places of a lent table, more than any board has CPUs.
+const PLACES: usize = 72;
+/// Bytes of a lent buffer, more than a log record has.
+const ROOM: usize = 60;
+
+/// The two lent tables, each with places past the part that is lent.
+#[derive(Clone, PartialEq, Debug)]
+pub struct Tables {
+    entries: [u64; PLACES],
+    contexts: [u64; PLACES],
+    lent: (usize, usize),
+}
+
+impl Tables {
+    /// Tables with other values each time and at each place.
+    fn any(dice: &mut Dice, lent: (usize, usize)) -> Self {
+        let (one, other) = (dice.word(), dice.word());
+        Self {
+            entries: std::array::from_fn(|place| one.wrapping_add(place as u64)),
+            contexts: std::array::from_fn(|place| other.wrapping_sub(place as u64)),
+            lent,
+        }
+    }
+
+    /// Tables that are long enough.
+    pub fn long(dice: &mut Dice, cpus: u64) -> Self {
+        let spare = PLACES + 1 - cpus as usize;
+        let lent = (
+            cpus as usize + dice.place(spare),
+            cpus as usize + dice.place(spare),
+        );
+        Self::any(dice, lent)
+    }
+
+    /// Tables of which one is too short, or both are.
+    pub fn short(dice: &mut Dice, cpus: u64) -> Self {
+        let short = dice.place(cpus as usize);
+        let other = dice.place(PLACES + 1);
+        let lent = if dice.one_in(2) {
+            (short, other)
+        } else {
+            (other, short)
+        };
+        Self::any(dice, lent)
+    }
+
+    /// Mostly tables that are long enough.
+    pub fn mostly_long(dice: &mut Dice, cpus: u64) -> Self {
+        if dice.one_in(64) {
+            Self::short(dice, cpus)
+        } else {
+            Self::long(dice, cpus)
+        }
+    }
+
+    /// The refusal of the lengths, or 0.
+    pub fn refusal(&self, cpus: u64) -> u64 {
+        let shorter = self.lent.0.min(self.lent.1);
+        if (shorter as u64) < cpus {
+            SHORT_TABLE
+        } else {
+            0
+        }
+    }
+
+    fn lend(&mut self) -> (&mut [u64], &mut [u64]) {
+        let (one, other) = self.lent;
+        (&mut self.entries[..one], &mut self.contexts[..other])
+    }
+}
+
+/// The flat form of an event; what its kind does not name is 0 or anything.
+pub fn flat_form(dice: &mut Dice, event: &Event) -> flat::Event {
+    let rest = if dice.one_in(4) {
+        junk_event(dice)
+    } else {
+        flat::Event::default()
+    };
+    flat_event(event, rest)
+}
+
+fn library_step(
+    record: &mut flat::Record,
+    event: flat::Event,
+    tables: &mut Tables,
+) -> flat::Answer {
+    let (entries, contexts) = tables.lend();
+    flat::step(record, event, entries, contexts)
+}
+
+/// A step of the library that has to be refused with this number and to
+/// change nothing.
+pub fn refused_step(
+    dice: &Dice,
+    record: &flat::Record,
+    event: flat::Event,
+    tables: &Tables,
+    refusal: u64,
+) {
+    let (mut after, mut tables_after) = (*record, tables.clone());
+    let answer = library_step(&mut after, event, &mut tables_after);
+    dice.same("refused answer", &answer, &flat_refused(refusal));
+    dice.same("record after a refusal", &after, record);
+    dice.same("tables after a refusal", &tables_after, tables);
+}
+
+/// The same record on both sides.
+pub struct Pair {
+    pub library: flat::Record,
+    pub peer: Record,
+}
+
+impl Pair {
+    /// One event on both sides. The answer and the flat form are handed back.
+    pub fn step(
+        &mut self,
+        dice: &mut Dice,
+        event: &Event,
+        tables: &Tables,
+    ) -> (Result<Answer, Refusal>, flat::Event) {
+        let form = flat_form(dice, event);
+        let before = self.library;
+        let (mut theirs, mut ours) = (tables.clone(), tables.clone());
+        let answer = library_step(&mut self.library, form, &mut theirs);
+        let (entries, contexts) = ours.lend();
+        let expected = self.peer.step(event, entries, contexts);
+        dice.same("answer", &(form, answer), &(form, flat_answer(&expected)));
+        dice.same("record", &self.library, &flat_record(&self.peer));
+        dice.same("tables", &theirs, &ours);
+        if expected.is_err() {
+            dice.same("refused, record", &self.library, &before);
+            dice.same("refused, tables", &theirs, tables);
+        }
+        (expected, form)
+    }
+}
+
+/// The length of a lent buffer, mostly with room for a record.
+fn room(dice: &mut Dice) -> usize {
+    if dice.one_in(16) {
+        dice.place(RECORD_BYTES)
+    } else {
+        RECORD_BYTES + dice.place(ROOM - RECORD_BYTES + 1)
+    }
+}
+
+/// Writes a log record on both sides; `expected` is the peer's record, or none
+/// where the library has to refuse with 32. The written bytes, if any.
+pub fn log(
+    dice: &mut Dice,
+    event: flat::Event,
+    answer: flat::Answer,
+    expected: Option<LogRecord>,
+) -> Option<[u8; RECORD_BYTES]> {
+    let length = room(dice);
+    let mut theirs = [0; ROOM];
+    dice.fill(&mut theirs);
+    let mut ours = theirs;
+    let written = flat::log(&mut theirs[..length], event, answer);
+    let expected = match expected {
+        Some(record) => record.write(&mut ours[..length]),
+        None => Err(Refusal::Unknown),
+    };
+    dice.same(
+        "log",
+        &(event, answer, length, written),
+        &(event, answer, length, flat_written(expected)),
+    );
+    dice.same("log bytes", &theirs, &ours);
+    expected.ok()?;
+    theirs.first_chunk().copied()
+}
+
+/// Both questions at a place, on both sides.
+pub fn ask(dice: &Dice, board: &[u8], log: &[u8], place: usize, call: &Call) {
+    let _ = ask_prepared(dice, log, place);
+    let _ = ask_starts(dice, board, log, place, call);
+}
+
+/// What is prepared at a place, on both sides.
+pub fn ask_prepared(dice: &Dice, log: &[u8], place: usize) -> Result<Prepared, Flaw> {
+    let expected = prepared_at(log, place);
+    dice.same(
+        "prepared",
+        &(place, flat::prepared(log, place)),
+        &(place, flat_prepared(expected)),
+    );
+    expected
+}
+
+/// What starts at a call, on both sides.
+pub fn ask_starts(
+    dice: &Dice,
+    board: &[u8],
+    log: &[u8],
+    place: usize,
+    call: &Call,
+) -> Result<Option<u64>, Flaw> {
+    let expected = starts_at(board, log, place, call);
+    dice.same(
+        "starts",
+        &(
+            place,
+            call,
+            flat::starts(board, log, place, flat_call(call)),
+        ),
+        &(place, call, flat_started(expected)),
+    );
+    expected
+}
+
+/// A call to ask about, mostly the ACTIVATE of one component.
+pub fn question(dice: &mut Dice, record: &Record) -> Call {
+    let mut call = any_call(dice, record);
+    if dice.one_in(4) {
+        return call;
+    }
+    call.x0 = Function::Activate.number();
+    call.x1 = dice.below(record.board.components);
+    call.x2 = 0;
+    call.x3 = record.board.first.next_multiple_of(4);
+    call
+}

@@ -1,0 +1,188 @@
+//! Long walks over all states, each event on both sides.
+
+use crate::convert::*;
+use crate::dice::{from_env, Dice};
+use crate::generate::{self, described, junk_event, Mood};
+use crate::pair::{ask_prepared, ask_starts, log, question, refused_step, Pair, Tables};
+use crate::tally::Tally;
+use lfa::flat;
+use peer::*;
+
+/// A board on its way, with the log of what it accepted.
+pub struct Walk {
+    pub pair: Pair,
+    pub board: Vec<u8>,
+    pub log: Vec<u8>,
+    mood: Mood,
+    steps_when_dead: u64,
+}
+
+impl Walk {
+    /// A walk on a board of any size.
+    pub fn new(dice: &mut Dice) -> Self {
+        let board = generate::board(dice);
+        Self::on(dice, board)
+    }
+
+    /// A walk on a board of the size that comes after so many walks, so that
+    /// each size has its turn.
+    fn in_turn(dice: &mut Dice, walks: u64) -> Self {
+        let board = generate::board_of(dice, 1 + walks / 2 % 32, 1 + walks % 64);
+        Self::on(dice, board)
+    }
+
+    fn on(dice: &mut Dice, mut board: Board) -> Self {
+        // Without a capable component a walk goes nowhere: seldom.
+        if !dice.one_in(32) {
+            let place = dice.below(board.components) as usize;
+            board.component[place].capable = true;
+        }
+        let described = described(&board);
+        let fresh = flat::fresh(&described);
+        dice.same("fresh", &fresh, &flat_fresh(Ok(board.clone())));
+        Self {
+            mood: Mood::any(dice, &board),
+            pair: Pair {
+                library: fresh.rec,
+                peer: Record::fresh(board),
+            },
+            board: described,
+            log: Vec::new(),
+            steps_when_dead: dice.below(60),
+        }
+    }
+
+    pub fn records(&self) -> usize {
+        self.log.len() / RECORD_BYTES
+    }
+
+    /// Whether the log is full or the board has been dead for long.
+    pub fn is_over(&self) -> bool {
+        self.records() == MAX_RECORDS || self.steps_when_dead == 0
+    }
+
+    /// One event on both sides, counted and logged.
+    pub fn step(&mut self, dice: &mut Dice, tally: &mut Tally) {
+        dice.next_step();
+        let before = self.pair.peer.state;
+        if before == State::Dead {
+            self.steps_when_dead = self.steps_when_dead.saturating_sub(1);
+        }
+        let event = generate::event(dice, &self.pair.peer, &self.mood);
+        let read = self.read_ahead(dice, &event);
+        let tables = Tables::mostly_long(dice, self.pair.peer.board.cpus);
+        let (answer, form) = self.pair.step(dice, &event, &tables);
+        tally.count(before, &event, &answer, self.pair.peer.state);
+        if let Some(read) = read {
+            // A short table is no matter of the log.
+            if answer != Err(Refusal::ShortTable) {
+                dice.same("starts and step", &read, &self.started(&answer));
+                tally.count_read(read);
+            }
+        }
+        if let Ok(answer) = answer {
+            self.write(dice, &event, form, answer);
+        }
+    }
+
+    /// The component whose rendezvous activation the answer started.
+    fn started(&self, answer: &Result<Answer, Refusal>) -> Option<u64> {
+        match (answer, self.pair.peer.state) {
+            (Ok(answer), State::Together(id)) if answer.caller == Caller::ActivationStarted => {
+                Some(id)
+            }
+            _ => None,
+        }
+    }
+
+    /// What the log says, now and then, of a call that is about to come; more
+    /// often where the call could start an activation, and less often as the
+    /// log grows, since all of it is read each time.
+    fn read_ahead(&self, dice: &mut Dice, event: &Event) -> Option<Option<u64>> {
+        let Event::Call(call) = event else {
+            return None;
+        };
+        let peer = &self.pair.peer;
+        let last = matches!(peer.state, State::Ready(_) | State::Gathering(_))
+            && (peer.on & !peer.held).count_ones() == 1;
+        let share = if last { 6 } else { 1 };
+        if dice.below(self.records() as u64 + 2) >= share {
+            return None;
+        }
+        let read = ask_starts(dice, &self.board, &self.log, self.records(), call);
+        Some(read.expect("a good log"))
+    }
+
+    /// Writes the log record on both sides and keeps it.
+    fn write(&mut self, dice: &mut Dice, event: &Event, form: flat::Event, answer: Answer) {
+        let flat = flat_answer(&Ok(answer));
+        let record = logged(event, &answer);
+        let bytes = log(dice, form, flat, Some(record)).unwrap_or_else(|| {
+            // There was no room: it is written again.
+            let mut bytes = [0; RECORD_BYTES];
+            record.write(&mut bytes).expect("a good record");
+            bytes
+        });
+        self.log.extend_from_slice(&bytes);
+    }
+
+    /// An event of a kind that is none changes nothing, whatever else it says;
+    /// a short table comes before it.
+    fn unknown_kind(&self, dice: &mut Dice) {
+        let event = junk_event(dice);
+        let cpus = self.pair.peer.board.cpus;
+        let tables = if dice.one_in(4) {
+            Tables::short(dice, cpus)
+        } else {
+            Tables::long(dice, cpus)
+        };
+        let refusal = unknown_refusal(tables.refusal(cpus));
+        refused_step(dice, &self.pair.library, event, &tables, refusal);
+        log(dice, event, flat::Answer::default(), None);
+    }
+
+    /// The log at its end beside the state.
+    fn check_log(&self, dice: &mut Dice) {
+        let place = self.records();
+        let prepared = ask_prepared(dice, &self.log, place).expect("a good log");
+        let ready = match self.pair.peer.state {
+            State::Ready(id) | State::Gathering(id) | State::Together(id) => Some(id),
+            State::Alone(id) | State::HalfActivated(id) => Some(id),
+            _ => None,
+        };
+        dice.same("prepared and state", &prepared.component, &ready);
+        let mut longer = self.log.clone();
+        longer.extend_from_within(..RECORD_BYTES.min(self.log.len()));
+        let call = question(dice, &self.pair.peer);
+        let _ = ask_starts(dice, &self.board, &longer, place, &call);
+    }
+}
+
+#[test]
+fn walks() {
+    let mut dice = Dice::new(1);
+    let mut tally = Tally::default();
+    let events = from_env("COMPARE_EVENTS", 1_000_000);
+    for walks in 0.. {
+        if tally.events >= events {
+            break;
+        }
+        let mut walk = match walks % 2 {
+            0 => Walk::in_turn(&mut dice, walks / 2),
+            _ => Walk::new(&mut dice),
+        };
+        tally.count_board(&walk.pair.peer.board);
+        let length = 1 + dice.below(2500);
+        for _ in 0..length {
+            walk.step(&mut dice, &mut tally);
+            if dice.one_in(200) {
+                walk.unknown_kind(&mut dice);
+            }
+            if walk.is_over() {
+                break;
+            }
+        }
+        walk.check_log(&mut dice);
+    }
+    tally.check();
+}

@@ -1,0 +1,380 @@
+//! The two packed forms and the log's questions.
+
+mod common;
+
+use common::*;
+use peer::*;
+
+fn number<T: std::fmt::Debug>(result: Result<T, Refusal>) -> u64 {
+    result.unwrap_err().number()
+}
+
+#[test]
+fn boards_round_trip() {
+    for components in 1..=32 {
+        for cpus in 1..=64 {
+            let board = board(components, cpus);
+            let bytes = described(&board);
+            assert_eq!(bytes.len() as u64, 18 + 21 * components);
+            assert_eq!(Board::read(&bytes), Ok(board));
+        }
+    }
+}
+
+#[test]
+fn board_bytes() {
+    let mut board = board(2, 4);
+    board.first = 0x0102_0304_0506_0708;
+    board.last = 0x1112_1314_1516_1718;
+    board.component[1].svn = 0xA1A2_A3A4;
+    let bytes = described(&board);
+    assert_eq!(bytes[2..10], [1, 2, 3, 4, 5, 6, 7, 8]);
+    assert_eq!(bytes[10..18], board.last.to_be_bytes());
+    assert_eq!(bytes[18..34], board.component[0].uuid);
+    assert_eq!(bytes[34], 0x80);
+    assert_eq!(bytes[55..], [0xC0, 0xA1, 0xA2, 0xA3, 0xA4]);
+}
+
+#[test]
+fn board_reading_refusals() {
+    let good = described(&board(3, 4));
+    for length in 0..good.len() {
+        assert_eq!(number(Board::read(&good[..length])), 20);
+    }
+    let mut bytes = good.clone();
+    bytes.push(0);
+    bytes[1] |= 1;
+    assert_eq!(number(Board::read(&bytes)), 21);
+    // Everything wrong at once, then put right in the order of refusal.
+    let mut bytes = good.clone();
+    bytes[2] = 0xFF;
+    let (flags, uuid) = (18 + 21 + 16, 18);
+    bytes[flags] |= 0x7F;
+    bytes.copy_within(uuid..uuid + 16, uuid + 42);
+    for bit in 0..5 {
+        bytes[flags] = bytes[flags] & 0xE0 | 1 << bit;
+        assert_eq!(number(Board::read(&bytes)), 22);
+        let mut head = good.clone();
+        head[1] |= 1 << bit;
+        assert_eq!(number(Board::read(&head)), 22);
+    }
+    bytes[flags] &= 0xE0;
+    assert_eq!(number(Board::read(&bytes)), 23);
+    bytes[2] = 0;
+    assert_eq!(number(Board::read(&bytes)), 24);
+    bytes[flags] &= !0x20;
+    assert_eq!(number(Board::read(&bytes)), 25);
+    bytes[uuid] ^= 1;
+    assert!(Board::read(&bytes).is_ok());
+}
+
+#[test]
+fn board_writing_refusals() {
+    let mut wrong = board(2, 4);
+    wrong.first = LAST + 1;
+    wrong.component[1].optional = true;
+    wrong.component[0].uuid = wrong.component[1].uuid;
+    let mut room = [7; 59];
+    for (components, cpus) in [(0, 4), (33, 4), (2, 0), (2, 65), (u64::MAX, u64::MAX)] {
+        let board = Board {
+            components,
+            cpus,
+            ..wrong.clone()
+        };
+        assert_eq!(number(board.write(&mut room)), 26);
+    }
+    assert_eq!(number(wrong.write(&mut room)), 23);
+    wrong.first = LAST;
+    assert_eq!(number(wrong.write(&mut room)), 24);
+    wrong.component[1].optional = false;
+    assert_eq!(number(wrong.write(&mut room)), 25);
+    wrong.component[0].uuid[0] ^= 1;
+    assert_eq!(number(wrong.write(&mut room)), 27);
+    assert_eq!(room, [7; 59]);
+    // Only within the counts.
+    wrong.component[2] = Component {
+        optional: true,
+        may_reset: true,
+        ..wrong.component[0]
+    };
+    let mut room = [7; 64];
+    assert_eq!(wrong.write(&mut room), Ok(60));
+    assert_eq!(room[60..], [7; 4]);
+    wrong.component[2] = Component::default();
+    assert_eq!(Board::read(&room[..60]), Ok(wrong));
+}
+
+fn good_records() -> Vec<LogRecord> {
+    let mut records = Vec::new();
+    for outcome in 1..=5 {
+        records.push(LogRecord {
+            kind: CALL,
+            cpu: 63,
+            code: 0,
+            outcome,
+            words: [
+                1,
+                2,
+                u64::MAX,
+                4,
+                5,
+                if outcome == 1 { u64::MAX } else { 0 },
+            ],
+        });
+    }
+    for (kind, codes) in [
+        (PRIME, &[0, 1, 3, 4, 6, 11][..]),
+        (ACTIVATE, &[0, 1, 2, 3, 4, 5, 6, 9, 11, 12]),
+    ] {
+        for &code in codes {
+            records.push(LogRecord {
+                kind,
+                cpu: 0,
+                code,
+                outcome: RELEASED,
+                words: [0, 31, 0, 0, 0, u64::MAX],
+            });
+        }
+    }
+    records.push(LogRecord {
+        kind: IMAGE,
+        cpu: 0,
+        code: 0,
+        outcome: NOTED,
+        words: [0, 31, 0xFFFF_FFFF, 0, 0, 0],
+    });
+    records
+}
+
+#[test]
+fn log_records_round_trip() {
+    for record in good_records() {
+        let mut bytes = [7; 60];
+        assert_eq!(record.write(&mut bytes), Ok(51));
+        assert_eq!(bytes[51..], [7; 9]);
+        assert_eq!(LogRecord::read(&bytes), Ok(record));
+        assert_eq!(LogRecord::read(&bytes[..51]), Ok(record));
+        for length in 0..51 {
+            assert_eq!(number(LogRecord::read(&bytes[..length])), 30);
+            let mut short = vec![7; length];
+            assert_eq!(number(record.write(&mut short)), 34);
+            assert!(short.iter().all(|&byte| byte == 7));
+        }
+    }
+}
+
+/// What reading or writing these fields should be refused with.
+fn refusal(record: &LogRecord) -> Option<u64> {
+    let codes: &[u64] = match record.kind {
+        PRIME => &[0, 1, 3, 4, 6, 11],
+        ACTIVATE => &[0, 1, 2, 3, 4, 5, 6, 9, 11, 12],
+        _ => &[],
+    };
+    let report = record.kind == PRIME || record.kind == ACTIVATE;
+    let outcome = match record.kind {
+        CALL => (1..=5).contains(&record.outcome),
+        PRIME | ACTIVATE => record.outcome == 6,
+        IMAGE => record.outcome == 7,
+        _ => false,
+    };
+    if !outcome || report && !codes.contains(&record.code) {
+        return Some(32);
+    }
+    let words = record.words;
+    let mut unused = Vec::new();
+    if record.kind == CALL {
+        unused.push(record.code);
+        if record.outcome != 1 {
+            unused.push(words[5]);
+        }
+        if record.cpu > 63 {
+            return Some(31);
+        }
+    } else {
+        unused.extend([record.cpu, words[0], words[3], words[4]]);
+        if words[1] > 31 {
+            return Some(31);
+        }
+    }
+    // Word 6 goes by the outcome alone, so code 12 may have any.
+    if report {
+        unused.push(words[2]);
+    }
+    if record.kind == IMAGE {
+        unused.extend([record.code, words[5]]);
+        if words[2] > 0xFFFF_FFFF {
+            return Some(31);
+        }
+    }
+    unused.iter().any(|&word| word != 0).then_some(31)
+}
+
+#[test]
+fn log_writing_refusals() {
+    let values = [
+        0,
+        1,
+        2,
+        3,
+        4,
+        5,
+        6,
+        7,
+        8,
+        11,
+        12,
+        16,
+        31,
+        32,
+        63,
+        64,
+        67,
+        1 << 32,
+        u64::MAX,
+    ];
+    for good in good_records() {
+        assert_eq!(refusal(&good), None);
+        for field in 0..10 {
+            for value in values {
+                let mut record = good;
+                match field {
+                    0 => record.kind = value,
+                    1 => record.cpu = value,
+                    2 => record.code = value,
+                    3 => record.outcome = value,
+                    word => record.words[word - 4] = value,
+                }
+                let mut bytes = [7; 51];
+                match refusal(&record) {
+                    None => {
+                        assert_eq!(record.write(&mut bytes), Ok(51));
+                        assert_eq!(LogRecord::read(&bytes), Ok(record));
+                    }
+                    Some(expected) => {
+                        assert_eq!(number(record.write(&mut bytes)), expected);
+                        assert_eq!(number(record.write(&mut [])), expected);
+                        assert_eq!(bytes, [7; 51]);
+                    }
+                }
+            }
+        }
+    }
+}
+
+#[test]
+fn log_reading_refusals() {
+    // Every head over words that are good for some kind.
+    for words in [
+        [0, 1, 0, 0, 0, 0],
+        [0, 1, 0, 0, 0, 9],
+        [0, 32, 0, 0, 0, 0],
+        [0, 1, 1 << 32, 0, 0, 0],
+        [1, 1, 0, 0, 0, 0],
+    ] {
+        let mut bytes = [0u8; 51];
+        for (place, word) in words.iter().enumerate() {
+            bytes[3 + 8 * place..][..8].copy_from_slice(&u64::to_be_bytes(*word));
+        }
+        for head in 0..1u64 << 18 {
+            let record = LogRecord {
+                kind: head >> 15,
+                cpu: head >> 9 & 63,
+                code: head >> 4 & 31,
+                outcome: head & 15,
+                words,
+            };
+            for reserved in [0, 1, 32] {
+                bytes[..3].copy_from_slice(&(head << 6 | reserved).to_be_bytes()[5..]);
+                let expected = match refusal(&record) {
+                    None if reserved != 0 => Some(31),
+                    other => other,
+                };
+                let read = LogRecord::read(&bytes);
+                match expected {
+                    None => assert_eq!(read, Ok(record)),
+                    Some(expected) => assert_eq!(number(read), expected),
+                }
+            }
+        }
+    }
+}
+
+#[test]
+fn flaws_have_places() {
+    let bench = Bench::in_state(State::Ready(PLAIN));
+    let records = bench.log.len() / 51;
+    let described = described(&bench.record.board);
+    let flaw = |log: &[u8], place| {
+        let flaw = prepared_at(log, place).unwrap_err();
+        let starts = starts_at(&described, log, place, &Call::default());
+        assert_eq!(starts, Err(flaw));
+        assert_eq!(powered_at(&described, log, place), Err(flaw));
+        assert_eq!(held_at(&described, log, place), Err(flaw));
+        (flaw.refusal.number(), flaw.place)
+    };
+    assert_eq!(flaw(&bench.log, records + 1), (33, 0));
+    assert_eq!(flaw(&bench.log, usize::MAX), (33, 0));
+    assert_eq!(flaw(&bench.log[1..], 0), (33, 0));
+    let mut bad = bench.log.clone();
+    bad[51 * 3 + 2] |= 1;
+    bad[51 * 4] = 0;
+    for place in 0..=records {
+        assert_eq!(flaw(&bad, place), (31, 3));
+    }
+    assert_eq!(flaw(&bad, records + 1), (33, 0));
+    bad[51 * 2] = 0xE0;
+    assert_eq!(flaw(&bad, 0), (32, 2));
+    // The board's refusal comes first.
+    let flaw = starts_at(&described[1..], &bad, 99, &Call::default()).unwrap_err();
+    assert_eq!((flaw.refusal.number(), flaw.place), (20, 0));
+}
+
+#[test]
+fn deciding_records() {
+    let cancel = |x0: u64, outcome, given| LogRecord {
+        kind: CALL,
+        cpu: 0,
+        code: 0,
+        outcome,
+        words: [x0, 7, 0, 0, 0, given],
+    };
+    let number = Function::Cancel.number();
+    assert!(cancel(number, RETURNED, 0).is_deciding());
+    assert!(cancel(number | 1 << 63, RETURNED, 0).is_deciding());
+    assert!(!cancel(number, RETURNED, status(8)).is_deciding());
+    assert!(!cancel(number, HELD, 0).is_deciding());
+    assert!(!cancel(number - 1, RETURNED, 0).is_deciding());
+    for record in good_records() {
+        let expected = match record.kind {
+            PRIME => record.code != 1,
+            ACTIVATE => record.code > 2 || record.code == 0,
+            _ => false,
+        };
+        assert_eq!(record.is_deciding(), expected);
+        let postpones = record.kind == ACTIVATE && record.code == 2;
+        assert_eq!(record.is_postponement(), postpones);
+    }
+}
+
+#[test]
+fn prepared_through_a_postponement() {
+    let bench = Bench::in_state(State::Together(OPTIONAL)).all(&[activated(OPTIONAL, 2)]);
+    let place = bench.log.len() / 51;
+    assert_eq!(
+        prepared_at(&bench.log, place),
+        Ok(Prepared {
+            component: Some(OPTIONAL),
+            looked: 5
+        })
+    );
+    let log = Log::read(&bench.log).unwrap();
+    assert_eq!(log.before(place - 4).unwrap().prepared().looked, 1);
+    let bench = bench.all(&[cancel(0, OPTIONAL)]);
+    assert_eq!(
+        prepared_at(&bench.log, place + 1),
+        Ok(Prepared {
+            component: None,
+            looked: 1
+        })
+    );
+}

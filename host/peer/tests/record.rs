@@ -1,0 +1,306 @@
+//! Well-formedness, and the refusals of a step in their order.
+
+mod common;
+
+use common::*;
+use peer::*;
+
+/// The rules for a well formed record, one after the other.
+fn well_formed(record: &Record) -> bool {
+    let board = &record.board;
+    if board.components < 1 || board.components > 32 || board.cpus < 1 || board.cpus > 64 {
+        return false;
+    }
+    let exists = |id: u64| id < board.components;
+    for id in 0..32u64 {
+        let place = id as usize;
+        let each = board.component[place];
+        if !exists(id) && (each != Component::default() || record.pending[place]) {
+            return false;
+        }
+        if !record.pending[place] && record.version[place] != 0 {
+            return false;
+        }
+        if each.optional && each.may_reset || record.pending[place] && !each.capable {
+            return false;
+        }
+        for other in 0..32 {
+            let twice = board.component[other as usize].uuid == each.uuid;
+            if other != id && exists(id) && exists(other) && twice {
+                return false;
+            }
+        }
+    }
+    if board.first > board.last || record.on == 0 {
+        return false;
+    }
+    let has = |set: u64, cpu: u64| set >> cpu & 1 == 1;
+    let counted = |set: u64| u64::from(set.count_ones());
+    if (board.cpus..64).any(|cpu| has(record.on, cpu)) || record.held & record.on != record.held {
+        return false;
+    }
+    let mut may_reset = false;
+    if let Some(id) = record.state.component() {
+        if !exists(id) || !record.pending[id as usize] {
+            return false;
+        }
+        let each = board.component[id as usize];
+        if record.version[id as usize] < each.svn {
+            return false;
+        }
+        if matches!(record.state, State::Alone(_) | State::HalfActivated(_)) && !each.optional {
+            return false;
+        }
+        may_reset = each.may_reset;
+    }
+    let held = counted(record.held);
+    let (held_fits, for_activate) = match record.state {
+        State::Preparing(_) => (held == 1, false),
+        State::Alone(_) => (held == 1, true),
+        State::Gathering(_) => (0 < held && held < counted(record.on), true),
+        State::Together(_) => (held == counted(record.on), true),
+        _ => (held == 0, false),
+    };
+    held_fits
+        && (0..64).all(|cpu| {
+            let (entry, context) = (record.entry[cpu as usize], record.context[cpu as usize]);
+            if may_reset && for_activate && has(record.held, cpu) {
+                entry % 4 == 0 && board.first <= entry && entry <= board.last
+            } else {
+                entry == 0 && context == 0
+            }
+        })
+}
+
+/// Records in every state, on small and full boards.
+fn samples() -> Vec<Record> {
+    let mut samples = Vec::new();
+    for id in [PLAIN, RESET, OPTIONAL] {
+        for state in [
+            State::Idle,
+            State::Preparing(id),
+            State::HalfPrepared(id),
+            State::Ready(id),
+            State::Gathering(id),
+            State::Together(id),
+            State::Dead,
+        ] {
+            samples.push(Bench::in_state(state).record);
+        }
+    }
+    samples.push(Bench::in_state(State::Alone(OPTIONAL)).record);
+    samples.push(Bench::in_state(State::HalfActivated(OPTIONAL)).record);
+    let mut full = Bench::new(board(32, 64), 64).all(&[image(29, 5), prime(0, 29), primed(29, 0)]);
+    for cpu in 0..64 {
+        full.good(&activate(cpu, 29));
+        samples.push(full.record.clone());
+    }
+    samples
+}
+
+fn damage(record: &mut Record, dice: &mut Dice) {
+    let words = [
+        0,
+        1,
+        2,
+        3,
+        4,
+        31,
+        32,
+        33,
+        63,
+        64,
+        65,
+        GOOD,
+        FIRST,
+        LAST,
+        u64::MAX,
+    ];
+    let word = dice.one_of(&words);
+    let component = dice.below(32) as usize;
+    let cpu = dice.below(64) as usize;
+    let small = dice.below(5);
+    match dice.below(18) {
+        0 => record.board.components = word,
+        1 => record.board.cpus = word,
+        2 => record.board.first = word,
+        3 => record.board.last = word,
+        4 => record.board.component[component].uuid[dice.below(16) as usize] ^= 1 << dice.below(8),
+        5 => record.board.component[component].uuid = record.board.component[small as usize].uuid,
+        6 => record.board.component[component].capable ^= true,
+        7 => record.board.component[component].may_reset ^= true,
+        8 => record.board.component[component].optional ^= true,
+        9 => record.board.component[component].svn = word as u32,
+        10 => record.pending[component] ^= true,
+        11 => record.version[component] = word as u32,
+        12 => {
+            record.state = match dice.below(9) {
+                0 => State::Idle,
+                1 => State::Preparing(small),
+                2 => State::HalfPrepared(small),
+                3 => State::Ready(small),
+                4 => State::Gathering(small),
+                5 => State::Together(small),
+                6 => State::Alone(small),
+                7 => State::HalfActivated(word),
+                _ => State::Dead,
+            }
+        }
+        13 => record.on ^= 1 << dice.below(64),
+        14 => record.held ^= 1 << dice.below(5),
+        15 => record.entry[cpu] = word,
+        16 => record.context[cpu] = word,
+        _ => record.informed ^= true,
+    }
+}
+
+#[test]
+fn damaged_records() {
+    let samples = samples();
+    let mut dice = Dice(0x1234_5678_9ABC_DEF1);
+    let (mut good, mut bad) = (0, 0);
+    for sample in &samples {
+        assert!(sample.is_well_formed() && well_formed(sample));
+        for round in 0..3000 {
+            let mut record = sample.clone();
+            for _ in 0..=round % 3 {
+                damage(&mut record, &mut dice);
+            }
+            let expected = well_formed(&record);
+            assert_eq!(record.is_well_formed(), expected, "{record:?}");
+            if expected {
+                good += 1;
+            } else {
+                bad += 1;
+            }
+        }
+    }
+    assert!(good > 1000 && bad > 1000);
+}
+
+#[test]
+fn every_place_is_looked_at() {
+    for sample in samples() {
+        let mut record = sample.clone();
+        let past = record.board.components as usize;
+        for place in past..32 {
+            for field in 0..7 {
+                let each = &mut record.board.component[place];
+                match field {
+                    0 => each.uuid[15] = 1,
+                    1 => each.capable = true,
+                    2 => each.may_reset = true,
+                    3 => each.optional = true,
+                    4 => each.svn = 1,
+                    5 => record.pending[place] = true,
+                    _ => record.version[place] = 1,
+                }
+                assert!(!record.is_well_formed());
+                record = sample.clone();
+            }
+        }
+        for cpu in 0..64 {
+            record.entry[cpu] ^= 1;
+            assert!(!record.is_well_formed());
+            record.entry[cpu] ^= 1;
+            record.context[cpu] ^= 1;
+            assert_eq!(record.is_well_formed(), well_formed(&record));
+            record.context[cpu] ^= 1;
+        }
+    }
+}
+
+#[test]
+fn every_pair_of_uuids_is_compared() {
+    let record = Bench::new(board(32, 64), 64).record;
+    for one in 0..32 {
+        for other in 0..one {
+            let mut record = record.clone();
+            record.board.component[one].uuid = record.board.component[other].uuid;
+            assert!(!record.is_well_formed());
+            record.board.component[one].uuid[15] ^= 0x80;
+            assert!(record.is_well_formed());
+        }
+    }
+}
+
+#[test]
+fn uuids_that_are_alike() {
+    // Many UUIDs in one byte, in the low or the high half, or all over.
+    for shape in 0..40 {
+        let mut record = Record::fresh(board(32, 1));
+        for (place, each) in (0u8..).zip(&mut record.board.component) {
+            each.uuid = match shape {
+                16 => [place; 16],
+                17 => [255 - place; 16],
+                18.. => {
+                    let mut dice = Dice(1 + u64::from(place) + 97 * shape as u64);
+                    std::array::from_fn(|_| dice.below(256) as u8)
+                }
+                byte => std::array::from_fn(|at| if at == byte { place } else { 0 }),
+            };
+        }
+        assert!(record.is_well_formed());
+        record.board.component[31].uuid = record.board.component[0].uuid;
+        assert!(!record.is_well_formed());
+    }
+}
+
+fn refused(bench: &mut Bench, event: &Event) -> u64 {
+    bench.step(event).unwrap_err().number()
+}
+
+#[test]
+fn refusals_in_order() {
+    let mut bench = Bench::in_state(State::Preparing(PLAIN));
+    let version = |cpu| call(cpu, Function::Version, [0; 4]);
+    assert_eq!(refused(&mut bench, &version(4)), 2);
+    assert_eq!(refused(&mut bench, &version(64)), 2);
+    assert_eq!(refused(&mut bench, &version(u64::MAX)), 2);
+    assert_eq!(refused(&mut bench, &version(3)), 3);
+    assert_eq!(refused(&mut bench, &version(0)), 4);
+    assert_eq!(refused(&mut bench, &primed(RESET, 99)), 5);
+    assert_eq!(refused(&mut bench, &activated(PLAIN, 0)), 5);
+    assert_eq!(refused(&mut bench, &primed(PLAIN, 2)), 6);
+    assert_eq!(refused(&mut bench, &primed(PLAIN, u64::MAX)), 6);
+    assert_eq!(refused(&mut bench, &image(STUCK, 0)), 7);
+    assert_eq!(refused(&mut bench, &image(PLAIN, 0)), 8);
+    // An unknown function is still refused from a CPU that is off.
+    assert_eq!(
+        refused(
+            &mut bench,
+            &Event::Call(Call {
+                cpu: 3,
+                ..Call::default()
+            })
+        ),
+        3
+    );
+}
+
+#[test]
+fn short_tables() {
+    let mut record = Record::fresh(board(4, 4));
+    let events = [
+        call(9, Function::Version, [0; 4]),
+        call(0, Function::Version, [0; 4]),
+        primed(0, 0),
+        activated(0, 0),
+        image(9, 0),
+        image(0, 0),
+    ];
+    for event in &events {
+        for (entries, contexts) in [(3, 4), (4, 3), (0, 64), (64, 0)] {
+            let (mut entries, mut contexts) = (vec![0; entries], vec![0; contexts]);
+            let refusal = record.step(event, &mut entries, &mut contexts).unwrap_err();
+            assert_eq!(refusal.number(), 1);
+        }
+    }
+    let four = record.step(&events[1], &mut [0; 4], &mut [0; 4]);
+    assert_eq!(four, Ok(returned(65536)));
+    record.on = 0;
+    for event in &events {
+        let refusal = record.step(event, &mut [], &mut []).unwrap_err();
+        assert_eq!(refusal.number(), 9);
+    }
+}

@@ -1,0 +1,302 @@
+//! What crosses to the library: numbers, arrays of numbers, and structs of these, as `lfa.h` has them.
+//!
+//! Every function here is safe: references are all that the library asks for, and whatever the numbers are, it gives a stated
+//! answer.
+
+/// Components that a board has at most.
+pub const MOST_COMPONENTS: usize = 32;
+/// CPUs that a board has at most.
+pub const MOST_CPUS: usize = 64;
+
+/// A set of CPUs.
+#[repr(C)]
+#[derive(Clone, Copy, Debug, Default, PartialEq, Eq, Hash)]
+pub struct Cpus {
+    /// Bit n is CPU n.
+    pub bits: u64,
+}
+
+/// A component of a board; a flag is 0 or 1.
+#[repr(C)]
+#[derive(Clone, Copy, Debug, Default, PartialEq, Eq)]
+pub struct Component {
+    /// Its UUID, byte 0 first.
+    pub uuid: [u8; 16],
+    /// The least image version that may be prepared.
+    pub svn: u32,
+    /// It can be activated live.
+    pub capable: u8,
+    /// Its activation may reset CPUs.
+    pub may_reset: u8,
+    /// Its activation may skip the rendezvous.
+    pub optional: u8,
+}
+
+/// What does not change about a board.
+#[repr(C)]
+#[derive(Clone, Copy, Debug, Default, PartialEq, Eq)]
+pub struct Board {
+    /// How many components there are, 1 to 32.
+    pub components: u64,
+    /// How many CPUs there are, 1 to 64.
+    pub cpus: u64,
+    /// The first address that can be an entry.
+    pub first: u64,
+    /// The last one.
+    pub last: u64,
+    /// The components, and zeros past their count.
+    pub component: [Component; MOST_COMPONENTS],
+}
+
+/// A board's record.
+#[repr(C)]
+#[derive(Clone, Copy, Debug, PartialEq, Eq)]
+pub struct Record {
+    /// The board.
+    pub board: Board,
+    /// 1 where an image is pending.
+    pub pending: [u8; MOST_COMPONENTS],
+    /// The pending image's version, else 0.
+    pub version: [u32; MOST_COMPONENTS],
+    /// A number from 0 (idle) to 8 (dead), in the order of document 01's table of rules.
+    pub state: u64,
+    /// The state's component; 0 in idle and dead.
+    pub subject: u64,
+    /// The powered CPUs.
+    pub on: Cpus,
+    /// Those that wait for a job or for others.
+    pub held: Cpus,
+    /// Where a CPU that is held for ACTIVATE with may_reset resumes, else 0.
+    pub entry: [u64; MOST_CPUS],
+    /// Its context id, else 0.
+    pub context: [u64; MOST_CPUS],
+    /// 1 where a GET_INFO is noted.
+    pub informed: u64,
+}
+
+/// A call: the CPU that makes it, and its registers.
+#[repr(C)]
+#[derive(Clone, Copy, Debug, Default, PartialEq, Eq)]
+pub struct Call {
+    /// The CPU.
+    pub cpu: u64,
+    /// X0; its low 32 bits are the function number.
+    pub x0: u64,
+    /// X1.
+    pub x1: u64,
+    /// X2.
+    pub x2: u64,
+    /// X3.
+    pub x3: u64,
+    /// X4.
+    pub x4: u64,
+}
+
+/// The end of a job.
+#[repr(C)]
+#[derive(Clone, Copy, Debug, Default, PartialEq, Eq)]
+pub struct Report {
+    /// The component that the job was for.
+    pub component: u64,
+    /// 0 done, 1 call again, 12 done by reset, else the status without its sign.
+    pub code: u64,
+}
+
+/// An image that arrived.
+#[repr(C)]
+#[derive(Clone, Copy, Debug, Default, PartialEq, Eq)]
+pub struct Image {
+    /// The component that it is for.
+    pub component: u64,
+    /// Its security version.
+    pub version: u32,
+}
+
+/// An event: the kind says which of the other three counts.
+#[repr(C)]
+#[derive(Clone, Copy, Debug, Default, PartialEq, Eq)]
+pub struct Event {
+    /// 1 a call, 2 a prime report, 3 an activate report, 4 an image.
+    pub kind: u64,
+    /// Counts for kind 1.
+    pub call: Call,
+    /// Counts for kinds 2 and 3.
+    pub report: Report,
+    /// Counts for kind 4.
+    pub image: Image,
+}
+
+/// What a caller goes on with.
+#[repr(C)]
+#[derive(Clone, Copy, Debug, Default, PartialEq, Eq)]
+pub struct Registers {
+    /// X0.
+    pub x0: u64,
+    /// X1.
+    pub x1: u64,
+    /// X2.
+    pub x2: u64,
+    /// X3.
+    pub x3: u64,
+}
+
+/// The CPUs that are released.
+#[repr(C)]
+#[derive(Clone, Copy, Debug, Default, PartialEq, Eq)]
+pub struct Freed {
+    /// Which CPUs.
+    pub cpus: Cpus,
+    /// X0 of each; 0 by entry.
+    pub x0: u64,
+    /// X1 of each; 0 by entry.
+    pub x1: u64,
+}
+
+/// An answer. A refused one has only the number of the refusal, and all else 0.
+#[repr(C)]
+#[derive(Clone, Copy, Debug, Default, PartialEq, Eq)]
+pub struct Answer {
+    /// 0 or the number of the refusal.
+    pub refusal: u64,
+    /// 0 no caller, 1 returned, 2 held, 3 prime started, 4 activation started, 5 gone.
+    pub caller: u64,
+    /// X0 to X3 where the caller returned, else 0.
+    pub returned: Registers,
+    /// 0 nobody, 1 with X0 and X1, 2 by entry address.
+    pub release: u64,
+    /// Who is released.
+    pub freed: Freed,
+}
+
+/// The answer of [`fresh`].
+#[repr(C)]
+#[derive(Clone, Copy, Debug, PartialEq, Eq)]
+pub struct Fresh {
+    /// 0 or the number of the refusal.
+    pub refusal: u64,
+    /// The record; all 0 if refused.
+    pub rec: Record,
+}
+
+/// The answer of [`log`].
+#[repr(C)]
+#[derive(Clone, Copy, Debug, Default, PartialEq, Eq)]
+pub struct Written {
+    /// 0 or the number of the refusal.
+    pub refusal: u64,
+    /// How many bytes were written; 0 if refused.
+    pub bytes: usize,
+}
+
+/// A component, or none.
+#[repr(C)]
+#[derive(Clone, Copy, Debug, Default, PartialEq, Eq)]
+pub struct Found {
+    /// 1, or 0 where there is none.
+    pub found: u64,
+    /// The component; 0 where there is none.
+    pub component: u64,
+}
+
+/// The answer of [`prepared`].
+#[repr(C)]
+#[derive(Clone, Copy, Debug, Default, PartialEq, Eq)]
+pub struct Prepared {
+    /// 0 or the number of the refusal.
+    pub refusal: u64,
+    /// If refused, the place of the record to blame, or 0 where it is the log.
+    pub place: usize,
+    /// What is prepared.
+    pub prepared: Found,
+    /// How many records were looked at, the deciding one included.
+    pub looked: usize,
+}
+
+/// The answer of [`starts`].
+#[repr(C)]
+#[derive(Clone, Copy, Debug, Default, PartialEq, Eq)]
+pub struct Started {
+    /// 0 or the number of the refusal.
+    pub refusal: u64,
+    /// If refused, the place of the record to blame, or 0 where it is the log or the board.
+    pub place: usize,
+    /// What starts.
+    pub started: Found,
+}
+
+mod linked {
+    use super::{Answer, Call, Event, Fresh, Prepared, Record, Started, Written};
+
+    extern "C" {
+        pub fn lfa_fresh(board: *const u8, board_length: usize) -> Fresh;
+        pub fn lfa_step(
+            rec: *mut Record,
+            e: Event,
+            entries: *mut u64,
+            entries_length: usize,
+            contexts: *mut u64,
+            contexts_length: usize,
+        ) -> Answer;
+        pub fn lfa_log(buf: *mut u8, buf_length: usize, e: Event, a: Answer) -> Written;
+        pub fn lfa_prepared(log: *const u8, log_length: usize, place: usize) -> Prepared;
+        pub fn lfa_starts(
+            board: *const u8,
+            board_length: usize,
+            log: *const u8,
+            log_length: usize,
+            place: usize,
+            call: Call,
+        ) -> Started;
+    }
+}
+
+/// The record of a board that was just switched on, from its packed description.
+pub fn fresh(board: &[u8]) -> Fresh {
+    // SAFETY: the slice is valid for its length, and the function only reads it.
+    unsafe { linked::lfa_fresh(board.as_ptr(), board.len()) }
+}
+
+/// One event on a record, in place. In the two tables only the places of CPUs that resume by entry are written.
+///
+/// Refused with 9 for a record that is not well formed, then 1 for a short table, then 32 for a kind that is none of the four,
+/// else 2 to 8.
+pub fn step(rec: &mut Record, e: Event, entries: &mut [u64], contexts: &mut [u64]) -> Answer {
+    // SAFETY: the three are valid for their lengths and apart, since each is borrowed mutably.
+    unsafe {
+        linked::lfa_step(
+            rec,
+            e,
+            entries.as_mut_ptr(),
+            entries.len(),
+            contexts.as_mut_ptr(),
+            contexts.len(),
+        )
+    }
+}
+
+/// Writes the log record of an accepted event at the start of the buffer; bytes not written stay.
+pub fn log(buf: &mut [u8], e: Event, a: Answer) -> Written {
+    // SAFETY: the slice is valid for its length and borrowed mutably.
+    unsafe { linked::lfa_log(buf.as_mut_ptr(), buf.len(), e, a) }
+}
+
+/// Which component is prepared at a place of a log.
+pub fn prepared(log: &[u8], place: usize) -> Prepared {
+    // SAFETY: the slice is valid for its length, and the function only reads it.
+    unsafe { linked::lfa_prepared(log.as_ptr(), log.len(), place) }
+}
+
+/// The component whose rendezvous activation starts at a call made at a place of a log.
+pub fn starts(board: &[u8], log: &[u8], place: usize, call: Call) -> Started {
+    // SAFETY: both slices are valid for their lengths, and the function only reads them.
+    unsafe {
+        linked::lfa_starts(
+            board.as_ptr(),
+            board.len(),
+            log.as_ptr(),
+            log.len(),
+            place,
+            call,
+        )
+    }
+}

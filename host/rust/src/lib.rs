@@ -1,0 +1,52 @@
+//! The live firmware activation agent for a host in Rust: a safe layer over the proved library, which `lfa.h` says in C.
+//!
+//! A host keeps a [`Record`] of its board and tells it every [`Event`]: a call from a CPU, the end of a job, an image that
+//! arrived. The [`Answer`] says what becomes of the caller and who else goes on. Each accepted event can be logged
+//! ([`write_log`]), and the log alone tells what is prepared ([`prepared_at`]) and whether a call starts a rendezvous
+//! activation ([`starts_at`]). A [`Refusal`] changes nothing.
+//!
+//! No input makes a function here panic. What the library asks of a host, the types see to.
+//!
+//! ```
+//! use lfa::{function, write_log, Call, Caller, Event, Image, Record, State};
+//!
+//! // One capable component, one CPU, any address.
+//! let mut board = [0; 39];
+//! board[10..18].fill(0xFF);
+//! board[34] = 0x80;
+//!
+//! let mut record = Record::fresh(&board)?;
+//! let (mut entries, mut contexts) = ([0; 1], [0; 1]);
+//!
+//! let image = Event::Image(Image { component: 0, version: 5 });
+//! record.step(&image, &mut entries, &mut contexts)?;
+//!
+//! let prime = Event::Call(Call { x0: function::PRIME, ..Call::default() });
+//! let answer = record.step(&prime, &mut entries, &mut contexts)?;
+//! assert_eq!(answer.caller, Caller::PrimeStarted);
+//! assert_eq!(record.state(), State::Preparing(0));
+//!
+//! let mut log = [0; 51];
+//! assert_eq!(write_log(&mut log, &prime, &answer)?, 51);
+//! # Ok::<(), lfa::Refusal>(())
+//! ```
+
+#![no_std]
+#![deny(unsafe_code)]
+#![warn(missing_docs)]
+
+mod answer;
+mod cpus;
+mod event;
+#[allow(unsafe_code)]
+pub mod flat;
+mod log;
+mod record;
+mod refusal;
+
+pub use answer::{status, Answer, Caller, Registers, Release};
+pub use event::{code, function, Call, Event, Image, Report};
+pub use flat::{Board, Component, Cpus, Freed, MOST_COMPONENTS, MOST_CPUS};
+pub use log::{prepared_at, starts_at, write_log, Flaw, Prepared, MOST_RECORDS, RECORD_BYTES};
+pub use record::{Record, State};
+pub use refusal::Refusal;

@@ -1,0 +1,90 @@
+//! Sizes and places of the flat structs, as `lfa.h` has them for a 64-bit host.
+
+use core::mem::{align_of, offset_of, size_of};
+
+use lfa::flat::{
+    Answer, Board, Call, Component, Cpus, Event, Found, Freed, Fresh, Image, Prepared, Record,
+    Registers, Report, Started, Written,
+};
+
+#[test]
+fn sizes() {
+    assert_eq!(size_of::<Cpus>(), 8);
+    assert_eq!(size_of::<Component>(), 24);
+    assert_eq!(size_of::<Board>(), 800);
+    assert_eq!(size_of::<Record>(), 2024);
+    assert_eq!(size_of::<Call>(), 48);
+    assert_eq!(size_of::<Report>(), 16);
+    assert_eq!(size_of::<Image>(), 16);
+    assert_eq!(size_of::<Event>(), 88);
+    assert_eq!(size_of::<Registers>(), 32);
+    assert_eq!(size_of::<Freed>(), 24);
+    assert_eq!(size_of::<Answer>(), 80);
+    assert_eq!(size_of::<Fresh>(), 2032);
+    assert_eq!(size_of::<Written>(), 16);
+    assert_eq!(size_of::<Found>(), 16);
+    assert_eq!(size_of::<Prepared>(), 40);
+    assert_eq!(size_of::<Started>(), 32);
+    assert_eq!(align_of::<Component>(), 4);
+    assert_eq!(align_of::<Record>(), 8);
+}
+
+#[test]
+fn places_in_a_board() {
+    assert_eq!(offset_of!(Component, uuid), 0);
+    assert_eq!(offset_of!(Component, svn), 16);
+    assert_eq!(offset_of!(Component, capable), 20);
+    assert_eq!(offset_of!(Component, may_reset), 21);
+    assert_eq!(offset_of!(Component, optional), 22);
+    assert_eq!(offset_of!(Board, components), 0);
+    assert_eq!(offset_of!(Board, cpus), 8);
+    assert_eq!(offset_of!(Board, first), 16);
+    assert_eq!(offset_of!(Board, last), 24);
+    assert_eq!(offset_of!(Board, component), 32);
+}
+
+#[test]
+fn places_in_a_record() {
+    assert_eq!(offset_of!(Record, board), 0);
+    assert_eq!(offset_of!(Record, pending), 800);
+    assert_eq!(offset_of!(Record, version), 832);
+    assert_eq!(offset_of!(Record, state), 960);
+    assert_eq!(offset_of!(Record, subject), 968);
+    assert_eq!(offset_of!(Record, on), 976);
+    assert_eq!(offset_of!(Record, held), 984);
+    assert_eq!(offset_of!(Record, entry), 992);
+    assert_eq!(offset_of!(Record, context), 1504);
+    assert_eq!(offset_of!(Record, informed), 2016);
+}
+
+#[test]
+fn places_in_events() {
+    assert_eq!(offset_of!(Call, cpu), 0);
+    assert_eq!(offset_of!(Call, x0), 8);
+    assert_eq!(offset_of!(Call, x4), 40);
+    assert_eq!(offset_of!(Report, code), 8);
+    assert_eq!(offset_of!(Image, version), 8);
+    assert_eq!(offset_of!(Event, kind), 0);
+    assert_eq!(offset_of!(Event, call), 8);
+    assert_eq!(offset_of!(Event, report), 56);
+    assert_eq!(offset_of!(Event, image), 72);
+}
+
+#[test]
+fn places_in_answers() {
+    assert_eq!(offset_of!(Answer, refusal), 0);
+    assert_eq!(offset_of!(Answer, caller), 8);
+    assert_eq!(offset_of!(Answer, returned), 16);
+    assert_eq!(offset_of!(Answer, release), 48);
+    assert_eq!(offset_of!(Answer, freed), 56);
+    assert_eq!(offset_of!(Freed, x0), 8);
+    assert_eq!(offset_of!(Freed, x1), 16);
+    assert_eq!(offset_of!(Fresh, rec), 8);
+    assert_eq!(offset_of!(Written, bytes), 8);
+    assert_eq!(offset_of!(Found, component), 8);
+    assert_eq!(offset_of!(Prepared, place), 8);
+    assert_eq!(offset_of!(Prepared, prepared), 16);
+    assert_eq!(offset_of!(Prepared, looked), 32);
+    assert_eq!(offset_of!(Started, place), 8);
+    assert_eq!(offset_of!(Started, started), 16);
+}

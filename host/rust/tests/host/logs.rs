@@ -1,0 +1,184 @@
+//! Writing log records, and what a damaged log is refused with.
+
+use lfa::{
+    flat, function, prepared_at, starts_at, write_log, Answer, Call, Caller, Event, Flaw, Refusal,
+    Registers, Release, Report, RECORD_BYTES,
+};
+
+use crate::setup::{board, call, image, prime_report, Host, PLAIN};
+
+const NOTHING: Answer = Answer {
+    caller: Caller::Nothing,
+    release: Release::Nobody,
+};
+
+const RETURNED: Answer = Answer {
+    caller: Caller::Returned(Registers {
+        x0: 1,
+        x1: 2,
+        x2: 3,
+        x3: 4,
+    }),
+    release: Release::Nobody,
+};
+
+/// Nothing is written, and the number is this one.
+fn not_written(length: usize, event: Event, answer: Answer, refusal: Refusal) {
+    let mut buf = vec![0xA5; length];
+    assert_eq!(write_log(&mut buf, &event, &answer), Err(refusal));
+    assert!(buf.iter().all(|&b| b == 0xA5));
+}
+
+#[test]
+fn a_record_is_51_bytes_and_the_rest_stays() {
+    let mut buf = [0xA5; 60];
+    let event = call(3, [1, 2, 3, 4, 5]);
+    assert_eq!(write_log(&mut buf, &event, &RETURNED), Ok(RECORD_BYTES));
+    assert_eq!(buf[..3], [0x21, 0x80, 0x40]);
+    for (i, word) in [1u64, 2, 3, 4, 5, 1].into_iter().enumerate() {
+        assert_eq!(buf[3 + 8 * i..][..8], word.to_be_bytes());
+    }
+    assert!(buf[RECORD_BYTES..].iter().all(|&b| b == 0xA5));
+}
+
+#[test]
+fn no_room_is_34() {
+    for length in 0..RECORD_BYTES {
+        not_written(length, image(0, 5), NOTHING, Refusal::NO_ROOM);
+    }
+}
+
+#[test]
+fn a_call_without_callers_part_is_32() {
+    not_written(0, call(0, [0; 5]), NOTHING, Refusal::UNKNOWN);
+    not_written(51, call(99, [0; 5]), NOTHING, Refusal::UNKNOWN);
+    not_written(51, prime_report(PLAIN, 2), NOTHING, Refusal::UNKNOWN);
+}
+
+#[test]
+fn a_refused_answer_is_not_logged() {
+    let refused = flat::Answer {
+        refusal: 4,
+        caller: 1,
+        ..flat::Answer::default()
+    };
+    let mut buf = [0xA5; 51];
+    let event = flat::Event::from(call(0, [0; 5]));
+    let written = flat::log(&mut buf, event, refused);
+    assert_eq!((written.refusal, written.bytes), (32, 0));
+    assert_eq!(buf, [0xA5; 51]);
+}
+
+#[test]
+fn an_event_of_unknown_kind_is_not_logged() {
+    for kind in [0, 5, u64::MAX] {
+        let event = flat::Event {
+            kind,
+            ..flat::Event::default()
+        };
+        let mut buf = [0xA5; 51];
+        let written = flat::log(&mut buf, event, RETURNED.into());
+        assert_eq!((written.refusal, written.bytes), (32, 0));
+        assert_eq!(buf, [0xA5; 51]);
+    }
+}
+
+#[test]
+fn a_number_without_room_in_its_field_is_31() {
+    not_written(0, call(64, [0; 5]), RETURNED, Refusal::FIELD);
+    not_written(51, image(32, 5), NOTHING, Refusal::FIELD);
+    let report = Event::Prime(Report {
+        component: u64::MAX,
+        code: 0,
+    });
+    not_written(51, report, NOTHING, Refusal::FIELD);
+}
+
+/// An image, a PRIME, and its report.
+fn log() -> Vec<u8> {
+    let mut host = Host::new().preparing(PLAIN);
+    host.take(prime_report(PLAIN, 0));
+    host.log
+}
+
+/// Both questions refuse the log with this number and place.
+fn refused(log: &[u8], place: usize, number: u64, at: usize) {
+    let flaw = prepared_at(log, place).expect_err("refused");
+    assert_eq!((flaw.refusal.number(), flaw.place), (number, at));
+    let started = starts_at(&board(), log, place, &Call::default());
+    assert_eq!(started, Err(flaw));
+}
+
+/// Since 33 comes first, no log here is refused with 30.
+#[test]
+fn a_length_or_a_place_that_is_wrong_is_33() {
+    let log = log();
+    for length in (0..=log.len()).filter(|n| n % RECORD_BYTES != 0) {
+        refused(&log[..length], 0, 33, 0);
+    }
+    refused(&log, 4, 33, 0);
+    refused(&log, usize::MAX, 33, 0);
+    refused(&[], 1, 33, 0);
+}
+
+#[test]
+fn an_unknown_kind_outcome_or_code_is_32_with_its_place() {
+    let bad_kind = |log: &mut Vec<u8>, k: usize| log[k * RECORD_BYTES] = 0xE0;
+    let bad_outcome = |log: &mut Vec<u8>, k: usize| log[k * RECORD_BYTES + 2] = 0;
+    for k in 0..3 {
+        let mut log = log();
+        bad_outcome(&mut log, k);
+        refused(&log, 0, 32, k);
+        bad_kind(&mut log, k);
+        refused(&log, 3, 32, k);
+    }
+}
+
+#[test]
+fn an_unused_field_is_31_with_its_place() {
+    let mut log = log();
+    log[2 * RECORD_BYTES + 50 - 8] = 1;
+    refused(&log, 1, 31, 2);
+    log[RECORD_BYTES + 2] |= 1;
+    refused(&log, 1, 31, 1);
+}
+
+#[test]
+fn a_log_of_other_bytes_is_refused() {
+    refused(&[0; 51], 0, 32, 0);
+    refused(&[0xFF; 510], 10, 32, 0);
+}
+
+#[test]
+fn an_empty_log_has_nothing_prepared() {
+    let found = prepared_at(&[], 0).expect("a log");
+    assert_eq!((found.component, found.looked), (None, 0));
+    assert_eq!(starts_at(&board(), &[], 0, &Call::default()), Ok(None));
+}
+
+#[test]
+fn starts_gives_the_boards_refusal_first() {
+    let mut board = board();
+    board.push(0);
+    let flaw = Flaw {
+        refusal: Refusal::BOARD_TOO_LONG,
+        place: 0,
+    };
+    let call = Call::default();
+    assert_eq!(starts_at(&board, &[0; 51], 1, &call), Err(flaw));
+    assert_eq!(starts_at(&board, &[0; 50], 9, &call), Err(flaw));
+}
+
+#[test]
+fn one_cpu_starts_by_the_log() {
+    let log = log();
+    let activate = Call {
+        x0: function::ACTIVATE,
+        x1: PLAIN,
+        ..Call::default()
+    };
+    assert_eq!(starts_at(&board(), &log, 3, &activate), Ok(Some(PLAIN)));
+    assert_eq!(starts_at(&board(), &log, 2, &activate), Ok(None));
+    let off = Call { cpu: 1, ..activate };
+    assert_eq!(starts_at(&board(), &log, 3, &off), Ok(None));
+}
