@@ -123,7 +123,7 @@ module _ (f : FlatRecord) (flat : isFlat f ≡ true) (e : FlatEvent) (known : Ev
   board-stays z =
       sym (ap flatBoard (step-board (recordIn f) known n m) ∙ board-there (f .board) (z .components) (and-left (areFlatComponents (f .board .component)) _ flat))
 
-  -- "the flat step is the agent's step (through the conversion)"
+  -- the next record is the agent's through the conversion, and so is the answer
   pub record-through : SizedFlat f → stepOf f e n m .rec ≡ flatOf (own .rec)
   unfolding throughOf
   record-through z = ap (λ (s : FlatStepped). s .rec) step-through ∙ ap (λ (b : FlatBoard). flatWith b (own .rec)) (board-stays z)

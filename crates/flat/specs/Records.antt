@@ -1,4 +1,4 @@
--- A board's record as numbers, and back: "a flag that is neither 0 nor 1 or a state that isn't one makes it not well formed".
+-- A board's record as numbers, and back. A flag that is neither 0 nor 1, or a state that isn't one, makes it not well formed.
 -- Assumes nothing.
 use Prim.Native.Nat.{ℕ}
 use mathlib.Core.Bool.{Bool, false, _&&_}
