@@ -1,4 +1,6 @@
 pub mod Written
+pub mod Laws
 pub mod Kept
+pub mod Stays
 pub mod Refused
 pub mod Pinned

@@ -4,10 +4,9 @@ use Prim.Native.Nat.{ℕ, _≤_}
 use mathlib.Core.Path.{_≡_, refl, ap, subst}
 use mathlib.Core.Bool.{true}
 use mathlib.Core.List.{List}
-use native.Mathlib.Omega.{arith}
 use lib.ListN.{length}
 use borrow.Author.Tests.{le-ltb}
-use Rattle.basics.specs.Choice.{not-both}
+use Rattle.basics.specs.Choice.{not-both, never}
 use Rattle.cpuset.specs.Laws.{has-none}
 use Rattle.board.specs.Description.{mostCpus}
 use Rattle.board.specs.Packed.{boardStands}
@@ -24,7 +23,8 @@ use Rattle.rules.specs.declared.Move.{Move}
 use Rattle.rules.specs.declared.Move.the-variants as move
 use Rattle.rules.specs.declared.Refusal.{Refusal}
 use Rattle.rules.specs.declared.Refusal.the-variants.{NotWellFormed}
-use Rattle.rules.proofs.Guards.{Guard, facts, decide-guard}
+use Rattle.rules.proofs.Facts.{Facts}
+use Rattle.rules.proofs.Guards.{decide-guard}
 use Rattle.agent.specs.Perform.{refusedOf, acceptedOf, performOf}
 use Rattle.agent.specs.Step.{stepOf, stepped, resumingOf, filled, entriesOf, contextsOf, after}
 use Rattle.agent.specs.declared.Answer.{Answer}
@@ -34,7 +34,7 @@ use Rattle.agent.proofs.Written.{written-nobody}
 use Rattle.agent.proofs.Kept.{after-kept}
 
 no-answer : {A : Type 0} (a : Answer) (x : Refusal) → Accepted a ≡ Refused x → A
-no-answer a x e = let z : _≡_ {A = ℕ} 0 1 = cc in absurd (omega arith)
+no-answer a x e = never cc
 
 -- only a refusal refuses
 refused-is : (r : Record) (m : Move) (x : Refusal) → performOf r m .outcome ≡ Refused x → m ≡ move.Refuse x
@@ -74,8 +74,7 @@ pub never-nine : (r : Record) (e : Event) (entries contexts : ℕ) → wellForme
 unfolding stepOf
 never-nine r e entries contexts w h =
     let m = decideOf r e entries contexts in
-    let g = subst (Guard r e) (refused-is r m NotWellFormed h) (decide-guard r e entries contexts) in
-    not-both w (facts r e (move.Refuse NotWellFormed) g refl)
+    not-both w (subst (Facts r e) (refused-is r m NotWellFormed h) (decide-guard r e entries contexts) refl)
 
 -- so it never comes to a board that started fresh, whatever happens
 pub fresh-never-nine : (b : Board) → boardStands b ≡ true → (es : List Event) (e : Event)

@@ -1,8 +1,8 @@
--- Document 01's bench examples of the agent (marked P), the postponed one, and every refusal of an event: one claim over one list.
--- Assumes nothing.
+-- Document 01's bench examples of the agent (marked P), the postponed one, rules that no bench example has, and every refusal of
+-- an event: one claim over one list. Assumes nothing.
 use Prim.Native.Nat.{ℕ, _+_, _-_, _^_}
 use mathlib.Core.Path.{_≡_, refl}
-use mathlib.Core.Bool.{Bool, true, false, _&&_}
+use mathlib.Core.Bool.{Bool, true, false, not, _&&_}
 use mathlib.Core.List.{List, [], _∷_, _++_}
 use lib.Dec.{eqb}
 use lib.ListN.{replicate}
@@ -13,15 +13,15 @@ use Rattle.codes.specs.Codes.{isPrimeCode, isActivateCode}
 use Rattle.cpuset.specs.Bit.{bit}
 use Rattle.cpuset.specs.Tally.{tally}
 use Rattle.cpuset.specs.Set.{room, hasOf, noneOf, onlyOf, unionOf, lessOf, belowOf, sameOf, countOf}
-use Rattle.board.specs.Description.{blank, numberedOf, isCapable, goodEntry, withinLimit, judgedOf}
+use Rattle.board.specs.Description.{blank, numberedOf, isCapable, goodEntry, withinLimit, judgedOf, entryRight}
 use Rattle.board.specs.Packed.{writableOf, boardStands}
 use Rattle.board.specs.declared.Board.{Board}
 use Rattle.board.specs.declared.Component.{Component}
-use Rattle.board_record.specs.Record.{freshOf}
+use Rattle.board_record.specs.Record.{placeOf, isPending, freshOf}
 use Rattle.board_record.specs.WellFormed.{poweredStand, imageStands, imagesStand, subjectStands, stateStands, heldStand, entryStands, entriesStand, workStands, restStands, wellFormed}
 use Rattle.rules.specs.Statuses.{minusOf, numberOf}
 use Rattle.rules.specs.Numbers.{decodeOf}
-use Rattle.rules.specs.Calls.{returned, featuresOf, infoOf, lowestFirst, describedOf, inventoryOf, arrivalOf, mayPrime, tryPrimeOf, trySameOf, skipRight, fieldsRight, entryRight, joinOf, tryActivateOf, cancelOf, offFree, onOf, answerOf, callOf}
+use Rattle.rules.specs.Calls.{returned, featuresOf, infoOf, lowestFirst, describedOf, inventoryOf, arrivalOf, mayPrime, tryPrimeOf, trySameOf, skipRight, fieldsRight, joinOf, tryActivateOf, cancelOf, offFree, onOf, answerOf, callOf}
 use Rattle.rules.specs.Reports.{activateAllows, primeReportOf, activateReportOf, imageOf}
 use Rattle.rules.specs.Decide.{decideOf}
 use Rattle.rules.specs.declared.Event.{Event}
@@ -104,18 +104,41 @@ says es e x0 = same (answer es e) (1 ∷ x0 ∷ [])
 abbrev refuses : List Event → Event → ℕ → Bool
 refuses es e n = same (answer es e) (0 ∷ n ∷ [])
 
--- X1 that a call returns
-abbrev x1Of : Outcome → ℕ
-x1Of (Refused x) = 0
-x1Of (Accepted a) = by (a .caller)
+-- X1 and X3 that a call returns
+abbrev given : Caller → List ℕ
+given caller.Nothing = []
+given (caller.Returned x) = x .x1 ∷ x .x3 ∷ []
+given caller.Held = []
+given caller.PrimeStarted = []
+given caller.ActivationStarted = []
+given caller.Gone = []
+
+abbrev gives : List Event → Event → List ℕ
+gives es e = by (stepped (after (freshOf board) es) e .outcome)
   where
-    by : Caller → ℕ
-    by caller.Nothing = 0
-    by (caller.Returned x) = x .x1
-    by caller.Held = 0
-    by caller.PrimeStarted = 0
-    by caller.ActivationStarted = 0
-    by caller.Gone = 0
+    by : Outcome → List ℕ
+    by (Refused x) = []
+    by (Accepted a) = given (a .caller)
+
+abbrev inventory : ℕ → Event
+inventory c = call 0 inventoryNumber c 0 0 0
+
+-- where some events lead: the state's row in the table of rules, and whether component c is pending
+abbrev leads : List Event → ℕ → Bool
+leads es row = eqb (placeOf (after (freshOf board) es .state)) row
+
+abbrev pends : List Event → ℕ → Bool
+pends es c = isPending (after (freshOf board) es .pending) c
+
+-- component 1 primed with this code; component 0 activated by CPU 0, which alone is on; component 1 without rendezvous
+abbrev primes : ℕ → List Event
+primes code = image 1 5 ∷ prime 1 ∷ primed 1 code ∷ []
+
+abbrev activates : ℕ → List Event
+activates code = ready 0 ++ activate 0 0 ∷ activated 0 code ∷ []
+
+abbrev skips : ℕ → List Event
+skips code = ready 1 ++ call 0 activateNumber 1 1 0 0 ∷ activated 1 code ∷ []
 
 unfoldable pub examples : List Bool
 unfolding allBelow firsts bit tally room hasOf noneOf onlyOf unionOf lessOf belowOf sameOf countOf numberedOf goodEntry withinLimit judgedOf writableOf boardStands freshOf poweredStand imageStands imagesStand subjectStands stateStands heldStand entryStands entriesStand workStands restStands wellFormed minusOf isCapable decodeOf returned featuresOf infoOf lowestFirst describedOf inventoryOf arrivalOf mayPrime tryPrimeOf trySameOf skipRight fieldsRight entryRight joinOf tryActivateOf cancelOf offFree onOf answerOf callOf isPrimeCode isActivateCode activateAllows primeReportOf activateReportOf imageOf decideOf refusedOf acceptedOf informedOf joinedOf settledOf poweredOf reportedOf afterPrime afterActivate imagedOf isDone endedOf releasedOf stepOf
@@ -125,10 +148,21 @@ examples =
     ∷ says [] (call 0 featuresNumber offNumber 0 0 0) (2 ^ 64 - 1)
     ∷ says [] (call 0 versionNumber 0 0 0 0) 65536
     -- P UUID bytes 00..0f: X1 = 0x0706050403020100
-    ∷ eqb (x1Of (stepped (after (freshOf board) (info ∷ [])) (call 0 inventoryNumber 0 0 0 0) .outcome)) 0x0706050403020100
+    ∷ same (gives (info ∷ []) (inventory 0)) (0x0706050403020100 ∷ 5 ∷ [])
     -- P inventory before GET_INFO, id too large: -7; after it: -8
-    ∷ says [] (call 0 inventoryNumber 99 0 0 0) (2 ^ 64 - 7)
-    ∷ says (info ∷ []) (call 0 inventoryNumber 99 0 0 0) (2 ^ 64 - 8)
+    ∷ says [] (inventory 99) (2 ^ 64 - 7)
+    ∷ says (info ∷ []) (inventory 99) (2 ^ 64 - 8)
+    -- flags: capable, pending and optional
+    ∷ same (gives (info ∷ image 1 5 ∷ []) (inventory 1)) (0x1716151413121110 ∷ 11 ∷ [])
+    -- PRIME of no component, of one that is not capable, and of one with no image
+    ∷ says [] (prime 99) (2 ^ 64 - 7)
+    ∷ says [] (prime 2) (2 ^ 64 - 7)
+    ∷ says [] (prime 1) (2 ^ 64 - 7)
+    -- the function number is the low 32 bits of X0; other arguments are compared whole
+    ∷ says [] (call 0 (2 ^ 32 + versionNumber) 0 0 0 0) 65536
+    ∷ says (ready 1) (call 0 cancelNumber (2 ^ 32 + 1) 0 0 0) (2 ^ 64 - 8)
+    ∷ says (ready 1) (call 0 activateNumber 1 (2 ^ 32) 0 0) (2 ^ 64 - 8)
+    ∷ says [] (switchOn 0 (2 ^ 32 + 1)) (2 ^ 64 - 2)
     -- P version 4, SVN 5: -3; version 5: starts
     ∷ says (image 1 4 ∷ []) (prime 1) (2 ^ 64 - 3)
     ∷ same (answer (image 1 5 ∷ []) (prime 1)) (3 ∷ [])
@@ -146,6 +180,19 @@ examples =
     ∷ refuses (ready 0 ++ activate 0 0 ∷ []) (activated 0 1) 6
     -- postponed (code 2), then one of two CPUs calls: held
     ∷ same (answer (switchOn 0 2 ∷ ready 0 ++ activate 0 0 ∷ activate 2 0 ∷ activated 0 2 ∷ []) (activate 0 0)) (2 ∷ [])
+    -- where the reports lead: idle 0, half-prepared 2, ready 3, half-activated 7, dead 8
+    ∷ leads (primes 0) 3
+    ∷ leads (primes 1) 2
+    ∷ leads (primes 11) 0
+    ∷ pends (primes 11) 1
+    ∷ leads (activates 12) 0
+    ∷ not (pends (activates 12) 0)
+    ∷ leads (activates 2) 3
+    ∷ leads (activates 5) 8
+    ∷ pends (activates 5) 0
+    ∷ leads (activates 9) 0
+    ∷ pends (activates 9) 0
+    ∷ leads (skips 1) 7
     -- every refusal of an event
     ∷ same (answered (stepOf (freshOf board) info 3 4 .outcome)) (0 ∷ 1 ∷ [])
     ∷ same (answered (stepOf (freshOf board) info 4 3 .outcome)) (0 ∷ 1 ∷ [])

@@ -1,4 +1,5 @@
--- What each move does and answers (document 01, "Calls" and "Reports"). Assumes nothing.
+-- What each move does and answers (document 01, "Calls" and "Reports"; the two parts of an answer, images and refusals: "Events
+-- and what they answer"). (H) marks a house choice. Assumes nothing.
 use Prim.Native.Nat.{ℕ}
 use mathlib.Core.Bool.{Bool, true, false, _||_}
 use lib.Dec.{eqb}
@@ -109,7 +110,7 @@ settledOf r s = record {
 abbrev pub freedOf : CpuSet → ℕ → ℕ → Release
 freedOf cpus x0 x1 = release.Returned (record { cpus = cpus; x0 = x0; x1 = x1 })
 
--- ---- CANCEL: "From gathering, the held CPUs are released with X0 = -11, X1 = 0"
+-- ---- CANCEL: "From gathering, the held CPUs are released with X0 = -11, X1 = 0 (H)"
 abbrev pub cancelledOf : Record → Release
 cancelledOf r = pick (isGathering (r .state)) (freedOf (r .held) (minusOf 11) 0) release.Nobody
 
@@ -157,7 +158,7 @@ afterActivate p =
     (pick (eqb (p .code) 5) Dead
     Idle))
 
--- "Code 0 or 12: .. pending cleared, GET_INFO forgotten"
+-- "Code 0 or 12: .. pending cleared, GET_INFO forgotten"; "A successful activation forgets the noted GET_INFO (H)"
 unfoldable pub isDone : ℕ → Bool
 isDone code = eqb code 0 || eqb code byReset
 

@@ -1,4 +1,5 @@
--- One event: the answer, the next record, and the two resume tables. Assumes nothing.
+-- One event: the answer, the next record, and the two resume tables (document 01, "Events and what they answer").
+-- Assumes nothing.
 use Prim.Native.Nat.{ℕ, zero, suc}
 use mathlib.Core.Bool.{Bool}
 use mathlib.Core.List.{List, [], _∷_}

@@ -1,7 +1,7 @@
 -- A choice by a test, and how a proof goes along one. Assumes nothing.
 use Prim.Native.Nat.{ℕ}
 use mathlib.Core.Path.{_≡_, refl, sym, subst, _∙_}
-use mathlib.Core.Bool.{Bool, true, false, _&&_, _||_}
+use mathlib.Core.Bool.{Bool, true, false, _&&_, _||_, true≢false, and-eq-true-iff}
 use native.Mathlib.Omega.{arith}
 
 -- the first where the test holds, else the second
@@ -26,22 +26,20 @@ pick-cases P true x y t f = t refl
 pick-cases P false x y t f = f refl
 
 pub not-both : {b : Bool} → b ≡ true → b ≡ false → ⊥
-not-both {b} p q = let z : _≡_ {A = ℕ} 0 1 = cc in omega arith
+not-both p q = true≢false (sym p ∙ q)
 
 pub refuted : (b : Bool) → (b ≡ true → ⊥) → b ≡ false
 refuted true f = absurd (f refl)
 refuted false f = refl
 
+pub both : (a b : Bool) → (a && b) ≡ true → (a ≡ true) × (b ≡ true)
+both a b e = and-eq-true-iff a b .0 e
+
 pub and-left : (a b : Bool) → (a && b) ≡ true → a ≡ true
-and-left true b e = refl
-and-left false b e = e
+and-left a b e = both a b e .0
 
 pub and-right : (a b : Bool) → (a && b) ≡ true → b ≡ true
-and-right true b e = e
-and-right false b e = absurd (not-both e refl)
-
-pub both : (a b : Bool) → (a && b) ≡ true → (a ≡ true) × (b ≡ true)
-both a b e = (and-left a b e, and-right a b e)
+and-right a b e = both a b e .1
 
 -- two tests of which each holds where the other does
 pub same-truth : (a b : Bool) → (a ≡ true → b ≡ true) → (b ≡ true → a ≡ true) → a ≡ b
@@ -51,3 +49,7 @@ same-truth false b f g = sym (refuted b (λ e. not-both (g e) refl))
 pub or-cases : {C : Type 0} (a b : Bool) → (a || b) ≡ true → (a ≡ true → C) → (b ≡ true → C) → C
 or-cases true b e f g = f refl
 or-cases false b e f g = g e
+
+-- no two constructors are equal: `never cc` where a fact says that they are
+pub never : {A : Type 0} → _≡_ {A = ℕ} 0 1 → A
+never z = absurd (omega arith)

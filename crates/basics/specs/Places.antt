@@ -6,7 +6,7 @@ use native.Mathlib.Omega.{arith}
 use native.Mathlib.Numerals.{add-one}
 use native.Mathlib.Nat.{mul-suc}
 use lib.ListN.{length, getD, take, drop, set, replicate, length-append, length-drop, length-replicate, getD-replicate, List·getD-append}
-use lib.Seq.{set-at, getD-at, take-suc, getD-drop, getD-append-add, take-add, drop-drop}
+use lib.Seq.{set-at, getD-at, take-suc, getD-drop, getD-append-add, take-add, drop-drop, ext-getD}
 use Rattle.basics.specs.Order.{last-cases}
 
 -- f 0 to f (n - 1)
@@ -81,6 +81,13 @@ unfolding firsts
 firsts-part zero k s d h = refl
 firsts-part (suc n) k s d h =
     rw (firsts-part n k s d (omega arith), take-suc (drop k s) n d (omega (arith, length-drop k s)), getD-drop)
+
+-- and of a whole one
+pub firsts-all : {A : Type 0} (n : ℕ) (s : List A) (d : A) → length s ≡ n → firsts n (λ i. getD s i d) ≡ s
+firsts-all {A} n s d e =
+    let f : ℕ → A = λ i. getD s i d in
+    let l = length-firsts f n in
+    ext-getD d (firsts n f) s (l ∙ sym e) (λ i h. getD-firsts f n i d (omega arith))
 
 module _ {A : Type 0} (f : ℕ → List A) where
   pub inTurn-more : (n : ℕ) → inTurn (n + 1) f ≡ inTurn n f ++ f n

@@ -9,21 +9,18 @@ ghost use Rattle.logbook.specs.Log.{checkedOf};
 ghost use Rattle.logbook.specs.declared.Checked.the-variants.{Records, Refused};
 ghost use Rattle.trace.specs.Turn.{turnAt};
 use board::Board;
-use board::MOST_BYTES;
 use board::Verdict;
 use files::File;
-use log_record::RECORD_BYTES;
 use logbook::Checked;
 use logbook::Flaw;
-use logbook::MOST_RECORDS;
 use trace::Turn;
 use words::number;
 use words::text;
 
 // One byte more than the longest description, and than the longest log: a file that fills it is too long, whatever follows.
-const BOARD_ROOM: usize = MOST_BYTES + 1;
+const BOARD_ROOM: usize = board::MOST_BYTES + 1;
 
-const LOG_ROOM: usize = MOST_RECORDS * RECORD_BYTES + 1;
+const LOG_ROOM: usize = logbook::MOST_BYTES + 1;
 
 // The line of record k.
 fn line(b: Board, log: &[u8], k: usize, t: Turn)

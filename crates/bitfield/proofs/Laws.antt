@@ -1,7 +1,7 @@
 -- The laws of a field's value and of writing. Assumes nothing.
 use Prim.Native.Nat.{ℕ, zero, suc, _+_, _-_, _*_, _/_, _%_, _^_, _≤_, _<_}
 use mathlib.Core.Path.{_≡_, refl, sym, ap, _∙_}
-use mathlib.Core.List.{List, _++_, append-assoc, append-nil}
+use mathlib.Core.List.{List, [], _++_, append-assoc, append-nil}
 use native.Mathlib.Nat.{pow-suc, pow-zero, add-suc, add-zero, mul-assoc, add-assoc, mul-suc, div-div-eq-div-mul}
 use native.Mathlib.Omega.{arith}
 use native.Mathlib.Numerals.{add-one}
@@ -91,6 +91,11 @@ firsts-bytes n f h i =
 pub put-paste : (d : List ℕ) (k : ℕ) (l : List ℕ) → paste d k l (length l) ≡ put d k l
 unfolding put
 put-paste d k l = rw take-length
+
+-- where nothing is written all stays
+pub put-none : (d : List ℕ) → d ≡ put d 0 []
+unfolding put
+put-none d = refl
 
 put-head : (d : List ℕ) (k j : ℕ) (l : List ℕ) → j ≡ k + length l → j ≤ length d → length (take k d ++ l) ≡ j
 put-head d k j l e h = omega (arith, length-append (take k d) l, length-take-le k d (omega arith))

@@ -1,20 +1,20 @@
 -- The cases of reading and of writing, each as a law that a proof cites. Assumes nothing.
 use Prim.Native.Nat.{ℕ, _+_, _-_, _*_, _<_, _≤_}
-use mathlib.Core.Path.{_≡_, refl}
+use mathlib.Core.Path.{_≡_, refl, sym}
 use mathlib.Core.Bool.{Bool, true, false}
 use mathlib.Core.List.{List, [], _∷_, _++_, append-assoc}
 use native.Mathlib.Omega.{arith}
 use lib.Dec.{leb, ltb}
 use lib.ListN.{length, take, drop, length-append}
-use borrow.Author.Tests.{leb-true, le-leb, ltb-false, lt-ltb, le-ltb}
-use Rattle.basics.specs.Choice.{pick-cases, yes, no, not-both, and-left, and-right}
+use borrow.Author.Tests.{leb-true, le-leb, ltb-true, ltb-false, lt-ltb, le-ltb, eqb-true, eqb-false}
+use Rattle.basics.specs.Choice.{pick-cases, yes, no, not-both, and-left, and-right, never}
 use Rattle.basics.specs.Places.{inTurn, length-inTurn}
 use Rattle.bitfield.specs.Bits.{bytes, put}
 use Rattle.bitfield.specs.Layout.{join, Fit}
-use Rattle.bitfield.proofs.Laws.{value-lt, length-bytes, put-put, take-put}
+use Rattle.bitfield.proofs.Laws.{value-lt, length-bytes, put-none, put-put, take-put}
 use Rattle.bitfield.proofs.Round.{join-one, bytes-join}
-use Rattle.board.specs.Description.{mostComponents, mostCpus, componentOf, blankPast, unless, withinLimit, countsOf, Counted, judgedOf}
-use Rattle.board.specs.Packed.{lengthOf, componentsIn, boardAt, reservedClear, shapeOf, unread, settle, accepted, readOf, digitOf, flagsNumber, headWidths, headValues, tailWidths, tailValues, headLength, tailLength, headBytes, componentBytes, componentLength, bytesAt, bytesOf, writableOf, isAccepted, isWritable, boardStands, lengthIn, putBy, putOf, bufferBy, bufferOf, partBy, partOf, Typed, EachTyped}
+use Rattle.board.specs.Description.{mostComponents, mostCpus, componentOf, isCapable, blankPast, unless, withinLimit, countsOf, Counted, judgedOf}
+use Rattle.board.specs.Packed.{lengthOf, componentsIn, boardAt, reservedClear, shapeOf, unread, settle, accepted, readOf, digitOf, flagIn, flagsNumber, headWidths, headValues, tailWidths, tailValues, headLength, tailLength, headBytes, componentBytes, componentLength, bytesAt, bytesOf, writableOf, isAccepted, isWritable, boardStands, lengthIn, putBy, putOf, bufferOf, partBy, partOf, Typed, EachTyped}
 use Rattle.board.specs.declared.Component.{Component}
 use Rattle.board.specs.declared.Board.{Board}
 use Rattle.board.specs.declared.Refusal.{Refusal}
@@ -32,7 +32,7 @@ components-most s = omega (arith, value-lt s 0 5)
 -- an accepted description passed each test
 pub passes : (ok : Bool) (x : Refusal) (v : Verdict) → unless ok x v ≡ Accepted → (ok ≡ true) × (v ≡ Accepted)
 passes true x v e = (refl, e)
-passes false x v e = let z : _≡_ {A = ℕ} 0 1 = cc in absurd (omega arith)
+passes false x v e = never cc
 
 -- what has the shape of a description
 pub record Shaped (s : List ℕ) : Type 0 where
@@ -91,6 +91,11 @@ pub stands-counted : (b : Board) → boardStands b ≡ true → Counted b
 unfolding boardStands
 stands-counted b e = writable-counted b (and-left (isWritable b) (blankPast b) e)
 
+-- a capable component is one of the board's
+pub capable-exists : (b : Board) (id : ℕ) → isCapable b id ≡ true → id < b .components
+unfolding isCapable
+capable-exists b id e = ltb-true id (b .components) (and-left (ltb id (b .components)) _ e)
+
 abbrev pub countsNumber : Board → ℕ
 countsNumber b = (b .components - 1) * 64 + (b .cpus - 1)
 
@@ -114,6 +119,17 @@ head-bytes b f =
 pub digit-fits : (b : Bool) → digitOf b < 2
 digit-fits true = omega arith
 digit-fits false = omega arith
+
+pub flag-digit : (b : Bool) → flagIn (digitOf b) ≡ b
+flag-digit true = refl
+flag-digit false = refl
+
+pub digit-flag : (x : ℕ) → x < 2 → digitOf (flagIn x) ≡ x
+digit-flag x h = go (flagIn x) refl
+  where
+    go : (t : Bool) → flagIn x ≡ t → digitOf t ≡ x
+    go true e = sym (eqb-true x 1 e)
+    go false e = let z = eqb-false x 1 e in omega arith
 
 flags-join : (c : Component) → join (take 4 tailWidths) (take 4 (tailValues c)) ≡ flagsNumber c * 32
 unfolding join
@@ -140,9 +156,9 @@ typed-long c t =
 module _ (d : List ℕ) (b : Board) where
   pub unwritable : (x : Refusal) → writableOf b ≡ Refused x → (Nothing x ≡ putOf (length d) b) × ((d ≡ bufferOf d b) × ((0 ≡ length (partOf d b)) × Unit {0}))
   unfolding putOf
-  unwritable x e = rw e (refl, (refl, (refl, tt)))
+  unwritable x e = rw e (refl, (put-none d, (refl, tt)))
 
-  pub by-room : (r : Written) (e : List ℕ) → writableOf b ≡ Accepted → r ≡ putBy Accepted (length d) (lengthOf (b .components)) → e ≡ bufferBy r d b → lengthIn r ≡ length (partBy r b) → (r ≡ putOf (length d) b) × ((e ≡ bufferOf d b) × (lengthIn r ≡ length (partOf d b)))
+  pub by-room : (r : Written) (e : List ℕ) → writableOf b ≡ Accepted → r ≡ putBy Accepted (length d) (lengthOf (b .components)) → e ≡ put d 0 (partBy r b) → lengthIn r ≡ length (partBy r b) → (r ≡ putOf (length d) b) × ((e ≡ bufferOf d b) × (lengthIn r ≡ length (partOf d b)))
   unfolding putOf
   by-room r e w p q l = rw (w, ← p) (refl, (q, l))
 
@@ -175,6 +191,6 @@ put-fits room b = go (writableOf b)
 pub part-written : (d : List ℕ) (b : Board) (n : ℕ) → n ≡ length (partOf d b) → n ≤ length d → take n (bufferOf d b) ≡ partOf d b
 part-written d b n = go (putOf (length d) b)
   where
-    go : (w : Written) → n ≡ length (partBy w b) → n ≤ length d → take n (bufferBy w d b) ≡ partBy w b
+    go : (w : Written) → n ≡ length (partBy w b) → n ≤ length d → take n (put d 0 (partBy w b)) ≡ partBy w b
     go (Bytes m) e h = take-put d 0 n (bytesOf b) (omega arith) h
     go (Nothing x) e h = rw e

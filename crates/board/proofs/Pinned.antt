@@ -3,6 +3,8 @@ use denote.Ref.{now}
 use Rattle.basics.proofs.Pin.{OneOutcome, OnePart, same, just}
 use Rattle.board.proofs.number.Kinds as number-kinds
 use Rattle.board.proofs.number.Reads as number-reads
+use Rattle.board.proofs.digit.Kinds as digit-kinds
+use Rattle.board.proofs.digit.Reads as digit-reads
 use Rattle.board.proofs.good_entry.Kinds as good-entry-kinds
 use Rattle.board.proofs.good_entry.Reads as good-entry-reads
 use Rattle.board.proofs.numbered.Kinds as numbered-kinds
@@ -11,6 +13,8 @@ use Rattle.board.proofs.is_capable.Kinds as is-capable-kinds
 use Rattle.board.proofs.is_capable.Reads as is-capable-reads
 use Rattle.board.proofs.may_reset.Kinds as may-reset-kinds
 use Rattle.board.proofs.may_reset.Reads as may-reset-reads
+use Rattle.board.proofs.is_entry_right.Kinds as is-entry-right-kinds
+use Rattle.board.proofs.is_entry_right.Reads as is-entry-right-reads
 use Rattle.board.proofs.is_well_formed.Kinds as is-well-formed-kinds
 use Rattle.board.proofs.is_well_formed.Reads as is-well-formed-reads
 use Rattle.board.proofs.read_board.Kinds as read-board-kinds
@@ -23,6 +27,9 @@ use Rattle.board.proofs.write_board.Reads as write-board-reads
 pub number-pinned : OneOutcome 0 number-kinds.ps number-kinds.r number-reads.Post
 number-pinned κs a z z′ ws ws′ p q = just p q
 
+pub digit-pinned : OneOutcome 0 digit-kinds.ps digit-kinds.r digit-reads.Post
+digit-pinned κs a z z′ ws ws′ p q = just (p .0) (q .0)
+
 pub good-entry-pinned : OneOutcome 0 good-entry-kinds.ps good-entry-kinds.r good-entry-reads.Post
 good-entry-pinned κs a z z′ ws ws′ p q = just p q
 
@@ -34,6 +41,9 @@ is-capable-pinned κs a z z′ ws ws′ p q = just p q
 
 pub may-reset-pinned : OneOutcome 0 may-reset-kinds.ps may-reset-kinds.r may-reset-reads.Post
 may-reset-pinned κs a z z′ ws ws′ p q = just p q
+
+pub is-entry-right-pinned : OneOutcome 0 is-entry-right-kinds.ps is-entry-right-kinds.r is-entry-right-reads.Post
+is-entry-right-pinned κs a z z′ ws ws′ p q = just p q
 
 pub is-well-formed-pinned : OneOutcome 0 is-well-formed-kinds.ps is-well-formed-kinds.r is-well-formed-reads.Post
 is-well-formed-pinned κs a z z′ ws ws′ p q = just p q

@@ -1,22 +1,22 @@
 -- A description that was written reads back, and bytes that read are those that writing gives. Assumes nothing.
 use Prim.Native.Nat.{ℕ, _+_, _-_, _*_, _<_, _≤_}
 use mathlib.Core.Path.{_≡_, refl, sym, ap, ap₂, _∙_}
-use mathlib.Core.Bool.{Bool, true, false, not, _&&_}
+use mathlib.Core.Bool.{true, not}
 use mathlib.Core.List.{List, [], _++_, append-nil}
 use native.Mathlib.Omega.{arith}
 use native.Mathlib.Nat.{add-assoc}
 use lib.Dec.{eqb}
 use lib.ListN.{length, getD, take, drop, length-append, length-drop, take-append-drop}
 use lib.Seq.{take-all, take-add, drop-drop, getD-drop}
-use borrow.Author.Tests.{eqb-true, eqb-false, eq-eqb, le-leb}
-use Rattle.basics.specs.Choice.{yes, and-left, and-right}
+use borrow.Author.Tests.{eqb-true, eq-eqb, le-leb}
+use Rattle.basics.specs.Choice.{yes, and-left, and-right, never}
 use Rattle.basics.specs.Every.{allBelow, all-of, all-at, all-same}
-use Rattle.basics.specs.Places.{firsts, length-table, inTurn, length-inTurn, inTurn-same, inTurn-parts, firsts-same, firsts-part, getD-table, getD-past, length-firsts}
+use Rattle.basics.specs.Places.{firsts, length-table, inTurn, length-inTurn, inTurn-same, inTurn-parts, firsts-same, firsts-part, firsts-all, getD-table, getD-past, length-firsts}
 use Rattle.bitfield.specs.Bits.{AreBytes, valueAt, bytes}
 use Rattle.bitfield.specs.Layout.{fields, fieldOf, join, Fit}
 use Rattle.bitfield.proofs.Laws.{length-bytes, value-lt, value-byte, firsts-bytes}
 use Rattle.bitfield.proofs.Round.{value-front, value-after, value-inTurn, fields-are, fields-drop, read-written, written-front}
-use Rattle.board.specs.Description.{mostComponents, uuidBytes, blank, absent, componentOf, sameUuid, parted, unseen, unlike, apart, distinct, judgedOf, Counted, isBlank, blankPast}
+use Rattle.board.specs.Description.{mostComponents, uuidBytes, blank, absent, componentOf, sameUuid, partedOf, parted, unseen, unlike, apart, distinct, judgedOf, Counted, isBlank, blankPast}
 use Rattle.board.specs.Packed.{headWidths, tailWidths, headLength, tailLength, componentLength, lengthOf, startOf, headField, componentsIn, uuidAt, tailField, flagAt, componentAt, boardAt, zeroAt, reservedClear, shapeOf, settle, accepted, readOf, digitOf, headValues, tailValues, headBytes, componentBytes, bytesAt, bytesOf, writableOf, boardStands, Described, DescribedIf, trimmed, ReadsBack, WritesBackBy, WritesBack}
 use Rattle.board.specs.declared.Component.{Component}
 use Rattle.board.specs.declared.Board.{Board}
@@ -25,18 +25,7 @@ use Rattle.board.specs.declared.Written.{Written}
 use Rattle.board.specs.declared.Written.the-variants.{Bytes, Nothing}
 use Rattle.board.specs.declared.Verdict.{Verdict}
 use Rattle.board.specs.declared.Verdict.the-variants.{Accepted, Refused}
-use Rattle.board.proofs.Laws.{digit-fits, counts, writable-passes, typed-long, Shaped, shape-accepted}
-
-flag-digit : (b : Bool) → eqb (digitOf b) 1 ≡ b
-flag-digit true = refl
-flag-digit false = refl
-
-digit-flag : (x : ℕ) → x < 2 → digitOf (eqb x 1) ≡ x
-digit-flag x h = go (eqb x 1) refl
-  where
-    go : (t : Bool) → eqb x 1 ≡ t → digitOf t ≡ x
-    go true e = sym (eqb-true x 1 e)
-    go false e = let z = eqb-false x 1 e in omega arith
+use Rattle.board.proofs.Laws.{digit-fits, flag-digit, digit-flag, counts, writable-passes, typed-long, Shaped, shape-accepted}
 
 -- ---- what is written: its places
 
@@ -89,14 +78,12 @@ module _ (b : Board) (d : Described b) (k : Counted b) where
     uuid-back : uuidAt bs (startOf i) ≡ c .uuid
     uuid-back =
         let u = d .each i l in
-        firsts-same uuidBytes (λ j. valueAt bs (startOf i + 8 * j) 8) (λ j. getD (c .uuid) (0 + j) 0)
+        firsts-same uuidBytes (λ j. valueAt bs (startOf i + 8 * j) 8) (λ j. getD (c .uuid) j 0)
         (λ j h.
         part-value (8 * j) 8 (omega arith)
         ∙ value-front (c .uuid) tail (8 * j) 8 (omega (arith, u .long))
-        ∙ value-byte (c .uuid) j (u .bytes j)
-        ∙ ap (λ (n : ℕ). getD (c .uuid) n 0) (omega arith))
-        ∙ firsts-part uuidBytes 0 (c .uuid) 0 (omega (arith, u .long))
-        ∙ take-all uuidBytes (c .uuid) (omega (arith, u .long))
+        ∙ value-byte (c .uuid) j (u .bytes j))
+        ∙ firsts-all uuidBytes (c .uuid) 0 (u .long)
 
     tail-fields : fields tailWidths 0 tail ≡ tailValues c
     tail-fields =
@@ -154,7 +141,7 @@ module _ (b : Board) where
   unfolding judgedOf
   judged-trimmed =
       let t = trimmed b .component in
-      let p : apart (trimmed b) ≡ apart b = all-same (b .components) (parted t) (parted (b .component)) (λ i l. ap (λ (c : Component). not (c .optional && c .«may_reset»)) (within i l)) in
+      let p : apart (trimmed b) ≡ apart b = all-same (b .components) (parted t) (parted (b .component)) (λ i l. ap partedOf (within i l)) in
       let q : distinct (trimmed b) ≡ distinct b =
       all-same (b .components) (unseen t) (unseen (b .component))
       (λ i l. all-same i (unlike t i) (unlike (b .component) i)
@@ -246,9 +233,7 @@ module _ (s : List ℕ) (bs : AreBytes s) (sh : Shaped s) where
 settled : (v : Verdict) (r : ReadBoard) (b : Board) → settle v r ≡ accepted b → (v ≡ Accepted) × (r ≡ accepted b)
 settled Accepted r b e = (refl, e)
 settled (Refused x) r b e =
-    let v = ap (λ (u : ReadBoard). u .verdict) e in
-    let z : _≡_ {A = ℕ} 0 1 = cc in
-    absurd (omega arith)
+    let v = ap (λ (u : ReadBoard). u .verdict) e in never cc
 
 record Read (s : List ℕ) (b : Board) : Type 0 where
   shaped : shapeOf s ≡ Accepted

@@ -1,6 +1,7 @@
--- The board description (document 01, "The board and its record") and when it is refused. Assumes nothing.
+-- The board description (document 01, "The board and its record"), which entries are good ("Calls"), and when a description is
+-- refused ("Events and what they answer"). Assumes nothing.
 use Prim.Native.Nat.{ℕ, _+_, _-_, _%_, _≤_}
-use mathlib.Core.Bool.{Bool, false, not, _&&_}
+use mathlib.Core.Bool.{Bool, true, false, not, _&&_}
 use mathlib.Core.List.{List, []}
 use lib.Dec.{eqb, leb, ltb}
 use lib.ListN.{getD, replicate}
@@ -70,6 +71,10 @@ blankPast b = allBelow (mostComponents - b .components) (λ j. isBlank (componen
 -- "a multiple of 4 in the range", both ends inside
 unfoldable pub goodEntry : ℕ → ℕ → ℕ → Bool
 goodEntry first last entry = eqb (entry % 4) 0 && (leb first entry && leb entry last)
+
+-- "with may_reset, X3 is a good entry", and ACTIVATE's "with may_reset, -10 unless .. (H)"; without it any is right
+unfoldable pub entryRight : Board → ℕ → ℕ → Bool
+entryRight b id entry = pick (mayReset b id) (goodEntry (b .first) (b .last) entry) true
 
 -- ---- the refusals that a description itself calls for
 

@@ -8,10 +8,10 @@ use lib.Dec.{eqb}
 use lib.ListN.{length, getD, take, set, replicate}
 use Rattle.basics.specs.Every.{allBelow, allHold}
 use Rattle.basics.specs.Places.{firsts, inTurn}
-use Rattle.bitfield.specs.Bits.{bitAt, valueAt, bytes}
+use Rattle.bitfield.specs.Bits.{bitAt, valueAt, bytes, put}
 use Rattle.bitfield.specs.Layout.{join}
 use Rattle.board.specs.Description.{blank, withinLimit, judgedOf, numberOf}
-use Rattle.board.specs.Packed.{componentAt, boardAt, reservedClear, shapeOf, readOf, headBytes, componentBytes, bytesOf, writableOf, putOf}
+use Rattle.board.specs.Packed.{componentAt, boardAt, reservedClear, shapeOf, readOf, headBytes, componentBytes, bytesOf, writableOf, putOf, bufferOf, partOf}
 use Rattle.board.specs.declared.Component.{Component}
 use Rattle.board.specs.declared.Board.{Board}
 use Rattle.board.specs.declared.Verdict.{Verdict}
@@ -45,7 +45,7 @@ writing room b = by (putOf room b)
     by (Nothing x) = numberOf x
 
 unfoldable pub examples : List Bool
-unfolding allBelow firsts inTurn bitAt valueAt bytes join withinLimit judgedOf componentAt boardAt reservedClear shapeOf readOf headBytes componentBytes bytesOf writableOf putOf
+unfolding allBelow firsts inTurn bitAt valueAt bytes put join withinLimit judgedOf componentAt boardAt reservedClear shapeOf readOf headBytes componentBytes bytesOf writableOf putOf
 examples =
     -- P 2 components, 4 CPUs: board opens 08 60, length 60
     eqb (getD (bytesOf two) 0 0) 0x08
@@ -71,6 +71,10 @@ examples =
     ∷ eqb (writing 59 (board 2 4 0x1FFF (part 0 true false ∷ part 0 true false ∷ []))) 25
     -- a flaw past the count is no flaw
     ∷ eqb (writing 39 (board 1 4 0x1FFF (part 0 true false ∷ part 0 true true ∷ []))) 39
+    -- the part written, and a byte past it that stays; nothing where there is no room
+    ∷ eqb (length (partOf (replicate 61 7) two)) 60
+    ∷ eqb (getD (bufferOf (replicate 61 7) two) 60 0) 7
+    ∷ eqb (length (partOf (replicate 59 7) two)) 0
     ∷ []
 
 pub examples-hold : allHold examples ≡ true

@@ -1,4 +1,5 @@
--- The packed form of a board description (document 01, "Packed forms, most significant bit first"). Assumes nothing.
+-- The packed form of a board description (document 01, "Packed forms, most significant bit first"), and its refusals ("Events and
+-- what they answer"). Assumes nothing.
 use Prim.Native.Nat.{ℕ, _+_, _-_, _*_, _^_, _<_}
 use mathlib.Core.Path.{_≡_}
 use mathlib.Core.Bool.{Bool, true, false, _&&_}
@@ -46,6 +47,14 @@ lengthOf n = headLength + componentLength * n
 abbrev pub startOf : ℕ → ℕ
 startOf i = 8 * lengthOf i
 
+-- a flag as a binary digit, and back
+abbrev pub digitOf : Bool → ℕ
+digitOf true = 1
+digitOf false = 0
+
+abbrev pub flagIn : ℕ → Bool
+flagIn n = eqb n 1
+
 -- ---- what bytes say
 
 -- field k of the head: 0 components, 1 CPUs, 2 zero, 3 first, 4 last
@@ -63,7 +72,7 @@ abbrev pub tailField : List ℕ → ℕ → ℕ → ℕ
 tailField s at k = fieldOf tailWidths k (at + 8 * uuidBytes) s
 
 abbrev pub flagAt : List ℕ → ℕ → ℕ → Bool
-flagAt s at k = eqb (tailField s at k) 1
+flagAt s at k = flagIn (tailField s at k)
 
 unfoldable pub componentAt : List ℕ → ℕ → Component
 componentAt s at =
@@ -110,10 +119,6 @@ unfoldable pub readOf : List ℕ → ReadBoard
 readOf s = settle (shapeOf s) (settle (judgedOf (boardAt s)) (accepted (boardAt s)))
 
 -- ---- writing
-
-abbrev pub digitOf : Bool → ℕ
-digitOf true = 1
-digitOf false = 0
 
 -- the flags as three binary digits
 abbrev pub flagsNumber : Component → ℕ
@@ -166,20 +171,17 @@ abbrev pub lengthIn : Written → ℕ
 lengthIn (Bytes n) = n
 lengthIn (Nothing x) = 0
 
--- the buffer after a write, and the part that was written: "a refused part is empty", "bytes not written stay"
-abbrev pub bufferBy : Written → List ℕ → Board → List ℕ
-bufferBy (Bytes n) d b = put d 0 (bytesOf b)
-bufferBy (Nothing x) d b = d
-
-abbrev pub bufferOf : List ℕ → Board → List ℕ
-bufferOf d b = bufferBy (putOf (length d) b) d b
-
+-- the part that was written: "a refused part is empty"
 abbrev pub partBy : Written → Board → List ℕ
 partBy (Bytes n) b = bytesOf b
 partBy (Nothing x) b = []
 
 abbrev pub partOf : List ℕ → Board → List ℕ
 partOf d b = partBy (putOf (length d) b) b
+
+-- the buffer after it: "Bytes not written stay"
+abbrev pub bufferOf : List ℕ → Board → List ℕ
+bufferOf d b = put d 0 (partOf d b)
 
 -- ---- what reads back
 

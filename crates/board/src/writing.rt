@@ -6,14 +6,15 @@ use crate::HEAD;
 use crate::Refusal;
 use crate::UUID_BYTES;
 use crate::Written;
+use crate::digit;
 ghost use mathlib.Core.Path.{_≡_};
-ghost use Prim.Native.Nat.{_+_, _*_, _<_, _≤_};
+ghost use Prim.Native.Nat.{_+_, _*_, _≤_};
 ghost use lib.ListN.{length};
 ghost use Rattle.basics.specs.Places.{inTurn};
 ghost use Rattle.bitfield.specs.Bits.{widestBytes, bytes, put};
 ghost use Rattle.board.specs.Description.{mostComponents, uuidBytes, Counted};
 ghost use Rattle.board.specs.declared.Verdict.the-variants.{Accepted};
-ghost use Rattle.board.specs.Packed.{digitOf, flagsNumber, lengthOf, componentLength, headLength, headBytes, componentBytes, bytesAt, lengthIn, putBy, bufferBy, partBy, Typed, EachTyped, DescribedIf};
+ghost use Rattle.board.specs.Packed.{flagsNumber, lengthOf, componentLength, headLength, headBytes, componentBytes, bytesAt, lengthIn, putBy, partBy, Typed, EachTyped, DescribedIf};
 
 // The bytes at which the head's words start, past the counts.
 const FIRST_AT: usize = 2;
@@ -24,12 +25,6 @@ const LAST_AT: usize = 10;
 const FLAGS_AT: usize = 16;
 
 const SVN_AT: usize = 17;
-
-fn digit(b: bool) -> u64
-    ensures { λ r. ⌜ r ≡ digitOf b ⌝ }
-{
-    if b { 1 } else { 0 }
-}
 
 // Writes a number in n bytes that lie in the buffer.
 fn put_number(buf: &mut [u8], k: usize, n: usize, v: u64)
@@ -99,7 +94,7 @@ fn put_components(buf: &mut [u8], b: Board)
 pub(crate) fn put_writable(buf: &mut [u8], b: Board) -> Written
     requires { ⌜ Counted b ⌝ }
     ensures { λ r. ⌜ r ≡ putBy Accepted (length (now (buf .entry))) (lengthOf (b .components)) ⌝ }
-    ensures { λ r. ⌜ now (buf .exit) ≡ bufferBy r (now (buf .entry)) b ⌝ }
+    ensures { λ r. ⌜ now (buf .exit) ≡ put (now (buf .entry)) 0 (partBy r b) ⌝ }
     ensures { λ r. ⌜ lengthIn r ≡ length (partBy r b) ⌝ }
     ensures { λ r. ⌜ DescribedIf r b ⌝ }
 {

@@ -1,19 +1,19 @@
 -- What a well-formed record tells, fact by fact, and how it is shown. Assumes nothing.
 use Prim.Native.Nat.{ℕ, _<_}
-use mathlib.Core.Path.{_≡_}
+use mathlib.Core.Path.{_≡_, ap, _∙_}
 use mathlib.Core.Bool.{true, false, not}
 use native.Mathlib.Omega.{arith}
-use lib.Dec.{eqb, ltb}
+use lib.Dec.{eqb}
 use lib.ListN.{length, replicate, getD-replicate, List·getD-eq-default}
-use borrow.Author.Tests.{ltb-true}
 use Rattle.basics.specs.Choice.{not-both, and-left, and-right, both}
 use Rattle.basics.specs.Every.{all-at, all-of}
 use Rattle.basics.specs.Order.{lt-cases}
 use Rattle.cpuset.specs.Set.{Set, hasOf, noneOf, belowOf, sameOf, withinOf, countOf}
 use Rattle.cpuset.specs.Laws.{has-none, set-none, set-below, set-within, same-is, within-of}
 use Rattle.cpuset.specs.declared.CpuSet.{CpuSet}
-use Rattle.board.specs.Description.{mostComponents, mostCpus, isCapable}
+use Rattle.board.specs.Description.{mostComponents, mostCpus}
 use Rattle.board.specs.Packed.{boardStands}
+use Rattle.board.proofs.Laws.{capable-exists}
 use Rattle.board_record.specs.Record.{subjectOf, holdingOf, isPending}
 use Rattle.board_record.specs.WellFormed.{poweredStand, imageStands, imagesStand, subjectStands, stateStands, heldBy, heldStand, keepersOf, entryStands, entriesStand, workStands, restStands, wellFormed}
 use Rattle.board_record.specs.declared.Record.{Record}
@@ -88,6 +88,16 @@ module _ (r : Record) (w : WellFormed r) where
   pub held-on : withinOf (r .held) (r .on) ≡ true
   held-on = held-within (r .state) (r .on) (r .held) on-set (w .held)
 
+  pub held-set : Set (r .held)
+  held-set = set-within (r .held) (r .on) on-set held-on
+
+  -- where all are held, no powered CPU is free
+  pub none-free : holdingOf (r .state) ≡ All → (cpu : ℕ) → hasOf (r .on) cpu ≡ true → hasOf (r .held) cpu ≡ false → ⊥
+  unfolding heldStand
+  none-free h cpu on free =
+      let all : sameOf (r .held) (r .on) ≡ true = rw h at (w .held) in
+      not-both (ap (λ (s : CpuSet). hasOf s cpu) (same-is (r .held) (r .on) all) ∙ on) free
+
   -- in a state that holds nobody
   pub held-none : holdingOf (r .state) ≡ Nobody → r .held ≡ noneOf
   unfolding heldStand
@@ -95,9 +105,8 @@ module _ (r : Record) (w : WellFormed r) where
 
   -- the state's component is pending, so it is one of the board's
   pub subject-exists : Sized r → (c : ℕ) → subjectOf (r .state) ≡ Of c → c < r .board .components
-  unfolding stateStands subjectStands imagesStand imageStands isCapable
+  unfolding stateStands subjectStands imagesStand imageStands
   subject-exists z c q =
       let pending : isPending (r .pending) c ≡ true = and-left (isPending (r .pending) c) _ (rw q at (w .state)) in
       let l = lt-cases c mostComponents (λ h. h) (λ h. absurd (not-both pending (List·getD-eq-default (r .pending) false (omega (arith, z .pending))))) in
-      let capable : isCapable (r .board) c ≡ true = rw pending at (all-at mostComponents _ (w .images) c l) in
-      ltb-true c (r .board .components) (and-left (ltb c (r .board .components)) _ capable)
+      capable-exists (r .board) c (rw pending at (all-at mostComponents _ (w .images) c l))

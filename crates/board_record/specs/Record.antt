@@ -1,9 +1,10 @@
 -- The board's record (document 01, "The board and its record"): its states and how it starts. Assumes nothing.
 use Prim.Native.Nat.{ℕ}
 use mathlib.Core.Bool.{Bool, true, false}
-use mathlib.Core.List.{List}
+use mathlib.Core.List.{List, [], _∷_}
 use lib.Dec.{eqb}
 use lib.ListN.{getD, replicate}
+use Rattle.basics.specs.Every.{oneOf}
 use Rattle.cpuset.specs.Set.{noneOf, onlyOf}
 use Rattle.board.specs.Description.{mostComponents, mostCpus}
 use Rattle.board.specs.declared.Board.{Board}
@@ -48,29 +49,40 @@ holdingOf (Alone c) = One
 holdingOf (HalfActivated c) = Nobody
 holdingOf Dead = Nobody
 
--- an activation without rendezvous began: it is running, or half done
-abbrev pub skipsRendezvous : State → Bool
-skipsRendezvous Idle = false
-skipsRendezvous (Preparing c) = false
-skipsRendezvous (HalfPrepared c) = false
-skipsRendezvous (Ready c) = false
-skipsRendezvous (Gathering c) = false
-skipsRendezvous (Together c) = false
-skipsRendezvous (Alone c) = true
-skipsRendezvous (HalfActivated c) = true
-skipsRendezvous Dead = false
+-- a state's place in document 01's table of rules, which is also its number for a host; the places that rules ask for by name
+abbrev pub preparingPlace : ℕ
+preparingPlace = 1
+
+abbrev pub gatheringPlace : ℕ
+gatheringPlace = 4
+
+abbrev pub togetherPlace : ℕ
+togetherPlace = 5
+
+abbrev pub alonePlace : ℕ
+alonePlace = 6
+
+abbrev pub halfActivatedPlace : ℕ
+halfActivatedPlace = 7
+
+abbrev pub placeOf : State → ℕ
+placeOf Idle = 0
+placeOf (Preparing c) = preparingPlace
+placeOf (HalfPrepared c) = 2
+placeOf (Ready c) = 3
+placeOf (Gathering c) = gatheringPlace
+placeOf (Together c) = togetherPlace
+placeOf (Alone c) = alonePlace
+placeOf (HalfActivated c) = halfActivatedPlace
+placeOf Dead = 8
+
+-- a prime job is running
+abbrev pub isPreparing : State → Bool
+isPreparing s = eqb (placeOf s) preparingPlace
 
 -- some of the powered CPUs are held for ACTIVATE, and not all
 abbrev pub isGathering : State → Bool
-isGathering Idle = false
-isGathering (Preparing c) = false
-isGathering (HalfPrepared c) = false
-isGathering (Ready c) = false
-isGathering (Gathering c) = true
-isGathering (Together c) = false
-isGathering (Alone c) = false
-isGathering (HalfActivated c) = false
-isGathering Dead = false
+isGathering s = eqb (placeOf s) gatheringPlace
 
 -- CPUs are held for a rendezvous: some of the powered ones, or all
 abbrev pub forRendezvous : Holding → Bool
@@ -84,27 +96,11 @@ isRendezvous s = forRendezvous (holdingOf s)
 
 -- an activation without rendezvous is running
 abbrev pub isAlone : State → Bool
-isAlone Idle = false
-isAlone (Preparing c) = false
-isAlone (HalfPrepared c) = false
-isAlone (Ready c) = false
-isAlone (Gathering c) = false
-isAlone (Together c) = false
-isAlone (Alone c) = true
-isAlone (HalfActivated c) = false
-isAlone Dead = false
+isAlone s = eqb (placeOf s) alonePlace
 
--- a state's place in document 01's table of rules, which is also its number for a host
-abbrev pub placeOf : State → ℕ
-placeOf Idle = 0
-placeOf (Preparing c) = 1
-placeOf (HalfPrepared c) = 2
-placeOf (Ready c) = 3
-placeOf (Gathering c) = 4
-placeOf (Together c) = 5
-placeOf (Alone c) = 6
-placeOf (HalfActivated c) = 7
-placeOf Dead = 8
+-- an activation without rendezvous began: it is running, or half done
+abbrev pub skipsRendezvous : State → Bool
+skipsRendezvous s = oneOf (placeOf s) (alonePlace ∷ halfActivatedPlace ∷ [])
 
 -- whether component id has a pending image, and "each pending image's version (0 where none is pending)"
 abbrev pub isPending : List Bool → ℕ → Bool

@@ -12,9 +12,8 @@ use Rattle.board.specs.Description.{mostComponents, mostCpus, numberedOf, isCap
 use Rattle.board.specs.Packed.{boardStands}
 use Rattle.board.specs.declared.Board.{Board}
 use Rattle.board.specs.declared.Component.{Component}
-use Rattle.board_record.specs.Record.{subjectOf, holdingOf, skipsRendezvous, isPending, versionOf}
+use Rattle.board_record.specs.Record.{subjectOf, holdingOf, isRendezvous, skipsRendezvous, isPending, versionOf}
 use Rattle.board_record.specs.declared.State.{State}
-use Rattle.board_record.specs.declared.State.the-variants.{Idle, Preparing, HalfPrepared, Ready, Gathering, Together, Alone, HalfActivated, Dead}
 use Rattle.board_record.specs.declared.Subject.{Subject}
 use Rattle.board_record.specs.declared.Subject.the-variants as subject
 use Rattle.board_record.specs.declared.Holding.{Holding}
@@ -62,16 +61,12 @@ heldStand s on held = heldBy (holdingOf s) on held
 
 -- "the entries and context ids of CPUs held for ACTIVATE with may_reset (0 elsewhere)": whose are kept; in alone nobody's,
 -- since optional and may_reset are never both set
+abbrev pub mayResetBy : Board → Subject → Bool
+mayResetBy b subject.Nothing = false
+mayResetBy b (subject.Of c) = mayReset b c
+
 abbrev pub keepsEntries : Board → State → Bool
-keepsEntries b Idle = false
-keepsEntries b (Preparing c) = false
-keepsEntries b (HalfPrepared c) = false
-keepsEntries b (Ready c) = false
-keepsEntries b (Gathering c) = mayReset b c
-keepsEntries b (Together c) = mayReset b c
-keepsEntries b (Alone c) = false
-keepsEntries b (HalfActivated c) = false
-keepsEntries b Dead = false
+keepsEntries b s = isRendezvous s && mayResetBy b (subjectOf s)
 
 abbrev pub keepersOf : Board → State → CpuSet → CpuSet
 keepersOf b s held = pick (keepsEntries b s) held noneOf

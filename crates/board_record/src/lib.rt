@@ -2,7 +2,7 @@
 mod standing;
 
 ghost use mathlib.Core.Path.{_≡_};
-ghost use Rattle.board_record.specs.Record.{subjectOf, holdingOf, isFor, skipsRendezvous, isGathering, isAlone, placeOf, isPending, versionOf, freshOf};
+ghost use Rattle.board_record.specs.Record.{subjectOf, holdingOf, placeOf, isGathering, isRendezvous, isAlone, skipsRendezvous, isFor, isPending, versionOf, freshOf};
 ghost use Rattle.board_record.specs.WellFormed.{wellFormed};
 use board::Board;
 use cpuset::CpuSet;
@@ -19,6 +19,17 @@ pub enum State {
     HalfActivated(u64),
     Dead,
 }
+
+// The places of these in the table of rules that rules ask for by name.
+pub const PREPARING: usize = 1;
+
+const GATHERING: usize = 4;
+
+pub const TOGETHER: usize = 5;
+
+pub const ALONE: usize = 6;
+
+const HALF_ACTIVATED: usize = 7;
 
 // What a state is about: nothing, or a component.
 pub enum Subject {
@@ -99,20 +110,20 @@ fn holding_of(s: State) -> Holding
     }
 }
 
-// Whether an activation without rendezvous began: it is running, or half done.
-pub fn skips_rendezvous(s: State) -> bool
-    ensures { λ r. ⌜ r ≡ skipsRendezvous s ⌝ }
+// A state's place in the table of rules, which is also its number for a host.
+pub fn place_of(s: State) -> usize
+    ensures { λ r. ⌜ r ≡ placeOf s ⌝ }
 {
     match s {
-        State::Idle => false,
-        State::Preparing(_) => false,
-        State::HalfPrepared(_) => false,
-        State::Ready(_) => false,
-        State::Gathering(_) => false,
-        State::Together(_) => false,
-        State::Alone(_) => true,
-        State::HalfActivated(_) => true,
-        State::Dead => false,
+        State::Idle => 0,
+        State::Preparing(_) => PREPARING,
+        State::HalfPrepared(_) => 2,
+        State::Ready(_) => 3,
+        State::Gathering(_) => GATHERING,
+        State::Together(_) => TOGETHER,
+        State::Alone(_) => ALONE,
+        State::HalfActivated(_) => HALF_ACTIVATED,
+        State::Dead => 8,
     }
 }
 
@@ -120,16 +131,18 @@ pub fn skips_rendezvous(s: State) -> bool
 pub fn is_gathering(s: State) -> bool
     ensures { λ r. ⌜ r ≡ isGathering s ⌝ }
 {
-    match s {
-        State::Idle => false,
-        State::Preparing(_) => false,
-        State::HalfPrepared(_) => false,
-        State::Ready(_) => false,
-        State::Gathering(_) => true,
-        State::Together(_) => false,
-        State::Alone(_) => false,
-        State::HalfActivated(_) => false,
-        State::Dead => false,
+    place_of(s) == GATHERING
+}
+
+// Whether CPUs are held for a rendezvous: some of the powered ones, or all.
+fn is_rendezvous(s: State) -> bool
+    ensures { λ r. ⌜ r ≡ isRendezvous s ⌝ }
+{
+    match holding_of(s) {
+        Holding::Nobody => false,
+        Holding::One => false,
+        Holding::Part => true,
+        Holding::All => true,
     }
 }
 
@@ -137,33 +150,17 @@ pub fn is_gathering(s: State) -> bool
 pub fn is_alone(s: State) -> bool
     ensures { λ r. ⌜ r ≡ isAlone s ⌝ }
 {
-    match s {
-        State::Idle => false,
-        State::Preparing(_) => false,
-        State::HalfPrepared(_) => false,
-        State::Ready(_) => false,
-        State::Gathering(_) => false,
-        State::Together(_) => false,
-        State::Alone(_) => true,
-        State::HalfActivated(_) => false,
-        State::Dead => false,
-    }
+    place_of(s) == ALONE
 }
 
-// A state's place in the table of rules, which is also its number for a host.
-pub fn place_of(s: State) -> usize
-    ensures { λ r. ⌜ r ≡ placeOf s ⌝ }
+// Whether an activation without rendezvous began: it is running, or half done.
+pub fn skips_rendezvous(s: State) -> bool
+    ensures { λ r. ⌜ r ≡ skipsRendezvous s ⌝ }
 {
-    match s {
-        State::Idle => 0,
-        State::Preparing(_) => 1,
-        State::HalfPrepared(_) => 2,
-        State::Ready(_) => 3,
-        State::Gathering(_) => 4,
-        State::Together(_) => 5,
-        State::Alone(_) => 6,
-        State::HalfActivated(_) => 7,
-        State::Dead => 8,
+    match place_of(s) {
+        ALONE => true,
+        HALF_ACTIVATED => true,
+        _ => false,
     }
 }
 

@@ -8,7 +8,7 @@ use board::Component;
 use cpuset::CpuSet;
 ghost use mathlib.Core.Path.{_≡_};
 ghost use Rattle.board.specs.Description.{capableAt};
-ghost use Rattle.board_record.specs.WellFormed.{poweredStand, imageStands, imagesStand, subjectStands, stateStands, heldBy, heldStand, keepsEntries, keepersOf, entryStands, entriesStand, workStands, restStands};
+ghost use Rattle.board_record.specs.WellFormed.{poweredStand, imageStands, imagesStand, subjectStands, stateStands, heldBy, heldStand, mayResetBy, keepsEntries, keepersOf, entryStands, entriesStand, workStands, restStands};
 
 fn is_powered_right(cpus: u64, on: CpuSet) -> bool
     ensures { λ r. ⌜ r ≡ poweredStand cpus on ⌝ }
@@ -121,23 +121,28 @@ fn is_held_right(s: State, on: CpuSet, held: CpuSet) -> bool
     }
 }
 
-fn keeps_entries(b: Board, s: State) -> bool
-    ensures { λ r. ⌜ r ≡ keepsEntries b s ⌝ }
+// Whether the component that a state is about may reset CPUs.
+fn may_reset_by(b: Board, about: Subject) -> bool
+    ensures { λ r. ⌜ r ≡ mayResetBy b about ⌝ }
 {
-    match s {
-        State::Idle => false,
-        State::Preparing(_) => false,
-        State::HalfPrepared(_) => false,
-        State::Ready(_) => false,
-        State::Gathering(c) => board::may_reset(b, c),
-        State::Together(c) => board::may_reset(b, c),
-        State::Alone(_) => false,
-        State::HalfActivated(_) => false,
-        State::Dead => false,
+    match about {
+        Subject::Nothing => false,
+        Subject::Of(c) => board::may_reset(b, c),
     }
 }
 
-fn is_entry_right(first: u64, last: u64, keeps: bool, entry: u64, context: u64) -> bool
+fn keeps_entries(b: Board, s: State) -> bool
+    ensures { λ r. ⌜ r ≡ keepsEntries b s ⌝ }
+{
+    if crate::is_rendezvous(s) {
+        may_reset_by(b, crate::subject_of(s))
+    } else {
+        false
+    }
+}
+
+// Whether a CPU's place holds a good entry where it is kept, and zeros elsewhere.
+fn is_place_right(first: u64, last: u64, keeps: bool, entry: u64, context: u64) -> bool
     ensures { λ r. ⌜ r ≡ entryStands first last keeps entry context ⌝ }
 {
     if keeps {
@@ -169,7 +174,7 @@ fn are_entries_right<'a>(
 {
     let mut i: usize = 0;
     while i < board::MOST_CPUS {
-        if is_entry_right(
+        if is_place_right(
             first,
             last,
             cpuset::has(keepers, i as u64),

@@ -14,7 +14,7 @@ use Rattle.basics.specs.Every.{all-at, all-of}
 use Rattle.basics.specs.Order.{lt-cases, eq-cases}
 use Rattle.basics.specs.Places.{firsts, getD-firsts}
 use Rattle.cpuset.specs.Bit.{bit, bit-zero, bit-or, bitLess, bit-less, less-none}
-use Rattle.cpuset.specs.Tally.{tally-same, tally-none, tally-zero, tally-more}
+use Rattle.cpuset.specs.Tally.{tally-none, tally-more}
 use Rattle.cpuset.specs.Words.{member-firsts, member-out, words-firsts, words-at, words-of, same-words, tally-words, total, onlyIn, bit-only, only-fits, belowIn, bit-below, below-fits}
 use Rattle.cpuset.specs.Set.{wordCount, words, of, room, word, Set, hasOf, noneOf, onlyOf, unionOf, lessOf, withOf, withoutOf, belowOf, sameOf, withinOf, countOf}
 use Rattle.cpuset.specs.declared.CpuSet.{CpuSet}
@@ -213,25 +213,10 @@ pub count-none : countOf noneOf ≡ 0
 unfolding countOf
 count-none = tally-none room (hasOf noneOf) has-none
 
-pub count-same : (s t : CpuSet) → ((j : ℕ) → j < room → hasOf s j ≡ hasOf t j) → countOf s ≡ countOf t
-unfolding countOf
-count-same s t h = tally-same room (hasOf s) (hasOf t) h
-
-pub count-zero : (s : CpuSet) → countOf s ≡ 0 → (j : ℕ) → hasOf s j ≡ false
-unfolding countOf
-count-zero s z j = lt-cases j room (tally-zero room (hasOf s) z j) (has-out s j)
-
 pub count-with : (s : CpuSet) (i : ℕ) → i < room → hasOf s i ≡ false → countOf (withOf s i) ≡ countOf s + 1
 unfolding countOf
 count-with s i l h =
     tally-more room (hasOf s) (hasOf (withOf s i)) i l h (with-self s i l) (λ j d. sym (with-other s i j d))
-
-pub count-without : (s : CpuSet) (i : ℕ) → hasOf s i ≡ true → countOf s ≡ countOf (withoutOf s i) + 1
-unfolding countOf
-count-without s i h =
-    let l = has-room s i h in
-    tally-more room (hasOf (withoutOf s i)) (hasOf s) i l (without-self s i) h
-    (without-other s i)
 
 -- what the code counts is that
 pub count-words : (s : CpuSet) → Set s → countOf s ≡ total (words s)

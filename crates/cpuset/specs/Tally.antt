@@ -34,16 +34,6 @@ unfolding tally
 tally-first zero f = omega arith
 tally-first (suc n) f = omega (arith, tally-first n f)
 
-pub tally-zero : (n : ℕ) (f : ℕ → Bool) → tally n f ≡ 0 → (i : ℕ) → i < n → f i ≡ false
-unfolding tally
-tally-zero zero f z i l = absurd (not-suc-le-zero l)
-tally-zero (suc n) f z i l =
-    last-cases l (λ e. ap f e ∙ last (f n) (omega arith)) (λ m. tally-zero n f (omega arith) i m)
-  where
-    last : (b : Bool) → pick {A = ℕ} b 1 0 ≡ 0 → b ≡ false
-    last true e = absurd (omega arith)
-    last false e = refl
-
 -- a test that holds at one number more
 pub tally-more :
     (n : ℕ) (f g : ℕ → Bool) (i : ℕ) → i < n → f i ≡ false → g i ≡ true

@@ -6,12 +6,11 @@ use log_record::LogRecord;
 use log_record::RECORD_BYTES;
 use logbook::Answer;
 use logbook::Checked;
+use logbook::MOST_BYTES;
 use logbook::MOST_RECORDS;
 
-// The longest log, and the bytes of one record more.
-const LONGEST: usize = MOST_RECORDS * RECORD_BYTES;
-
-const TOO_LONG: usize = LONGEST + RECORD_BYTES;
+// The bytes of one record more than the longest log has.
+const TOO_LONG: usize = MOST_BYTES + RECORD_BYTES;
 
 // Image 1, version 5.
 fn image() -> LogRecord {
@@ -151,9 +150,9 @@ pub(crate) fn all() {
     let mut log = [0u8; TOO_LONG];
     fill(&mut log, image());
     checking(&log);
-    checking(front(&log, LONGEST));
-    asking(front(&log, LONGEST), MOST_RECORDS);
-    asking(front(&log, LONGEST), MOST_RECORDS + 1);
+    checking(front(&log, MOST_BYTES));
+    asking(front(&log, MOST_BYTES), MOST_RECORDS);
+    asking(front(&log, MOST_BYTES), MOST_RECORDS + 1);
     let rest = log_record::rest(&log);
     text(b"past its first record: ");
     number(rest.len() as u64);

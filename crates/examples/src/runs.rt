@@ -135,7 +135,7 @@ fn ready(rec: Record, c: u64) -> Record {
     after(after(after(rec, image(c, 5)), prime(0, c)), primed(c))
 }
 
-fn calls() {
+fn numbers() {
     ask(
         b"unknown number 0xC40002E7",
         fresh(),
@@ -147,65 +147,46 @@ fn calls() {
         fresh(),
         call(0, codes::FEATURES, codes::CPU_OFF, 0, 0),
     );
+}
+
+fn inventory(name: &[u8], rec: Record, id: u64) {
+    ask(name, rec, call(0, codes::GET_INVENTORY, id, 0, 0));
+}
+
+fn inventories() {
     let informed = after(fresh(), call(0, codes::GET_INFO, 0, 0, 0));
-    ask(
-        b"inventory of 0",
-        informed,
-        call(0, codes::GET_INVENTORY, 0, 0, 0),
-    );
-    ask(
-        b"inventory of 99 before GET_INFO",
-        fresh(),
-        call(0, codes::GET_INVENTORY, 99, 0, 0),
-    );
-    ask(
-        b"inventory of 99 after it",
-        informed,
-        call(0, codes::GET_INVENTORY, 99, 0, 0),
-    );
+    inventory(b"inventory of 0", informed, 0);
+    inventory(b"inventory of 99 before GET_INFO", fresh(), 99);
+    inventory(b"inventory of 99 after it", informed, 99);
 }
 
-fn preparing() {
-    ask(
-        b"PRIME of version 4, SVN 5",
-        after(fresh(), image(1, 4)),
-        prime(0, 1),
-    );
-    ask(
-        b"PRIME of version 5, SVN 5",
-        after(fresh(), image(1, 5)),
-        prime(0, 1),
-    );
-    ask(
-        b"CANCEL of 99 in idle",
-        fresh(),
-        call(0, codes::CANCEL, 99, 0, 0),
-    );
-    ask(
-        b"CANCEL of 99 in ready for 1",
-        ready(fresh(), 1),
-        call(0, codes::CANCEL, 99, 0, 0),
-    );
+fn primes(name: &[u8], version: u32) {
+    ask(name, after(fresh(), image(1, version)), prime(0, 1));
 }
 
-fn activating() {
-    let one = ready(fresh(), 0);
-    ask(b"one CPU on, its ACTIVATE", one, activate(0, 0));
+fn cancels(name: &[u8], rec: Record) {
+    ask(name, rec, call(0, codes::CANCEL, 99, 0, 0));
+}
+
+fn one_cpu(rec: Record) {
+    ask(b"one CPU on, its ACTIVATE", rec, activate(0, 0));
     ask(
         b"code 1 in together",
-        after(one, activate(0, 0)),
+        after(rec, activate(0, 0)),
         activated(0, 1),
     );
-    let two = ready(two_on(), 0);
-    ask(b"two CPUs on, the first ACTIVATE", two, activate(0, 0));
-    let gathering = after(two, activate(0, 0));
+}
+
+fn gathering(rec: Record) {
     ask(
         b"CPU_ON of 3 in gathering",
-        gathering,
+        rec,
         call(2, codes::CPU_ON, 3, ENTRY, 0),
     );
-    ask(b"the second ACTIVATE", gathering, activate(2, 0));
-    let together = after(gathering, activate(2, 0));
+    ask(b"the second ACTIVATE", rec, activate(2, 0));
+}
+
+fn postponed(together: Record) {
     ask(
         b"postponed, then one of the two",
         after(together, activated(0, 2)),
@@ -213,8 +194,20 @@ fn activating() {
     );
 }
 
+fn two_cpus(rec: Record) {
+    ask(b"two CPUs on, the first ACTIVATE", rec, activate(0, 0));
+    let gathered = after(rec, activate(0, 0));
+    gathering(gathered);
+    postponed(after(gathered, activate(2, 0)));
+}
+
 pub(crate) fn all() {
-    calls();
-    preparing();
-    activating();
+    numbers();
+    inventories();
+    primes(b"PRIME of version 4, SVN 5", 4);
+    primes(b"PRIME of version 5, SVN 5", 5);
+    cancels(b"CANCEL of 99 in idle", fresh());
+    cancels(b"CANCEL of 99 in ready for 1", ready(fresh(), 1));
+    one_cpu(ready(fresh(), 0));
+    two_cpus(ready(two_on(), 0));
 }

@@ -1,56 +1,44 @@
 -- Records as numbers and back: on what is well formed each way undoes the other. Assumes nothing.
-use Prim.Native.Nat.{ℕ, zero, suc, _+_, _<_}
+use Prim.Native.Nat.{ℕ, zero, suc, _<_}
 use mathlib.Core.Path.{_≡_, refl, sym, ap, _∙_}
 use mathlib.Core.Bool.{Bool, true, false, _&&_}
 use mathlib.Core.List.{List}
 use lib.Dec.{eqb}
 use lib.ListN.{length, getD}
-use lib.Seq.{take-all}
-use borrow.Author.Tests.{eqb-true, leb-true, ltb-true}
+use borrow.Author.Tests.{eqb-true, leb-true, ltb-true, le-leb}
 use native.Mathlib.Omega.{arith}
-use native.Mathlib.Nat.{zero-add}
 use Rattle.basics.specs.Choice.{refuted, and-left, and-right}
 use Rattle.basics.specs.Every.{all-at, all-of}
-use Rattle.basics.specs.Places.{firsts, firsts-same, firsts-part, getD-firsts}
+use Rattle.basics.specs.Places.{firsts, firsts-same, firsts-all, getD-firsts}
 use Rattle.board.specs.Description.{mostComponents, mostCpus, absent}
-use Rattle.board.specs.Packed.{digitOf}
+use Rattle.board.specs.Packed.{digitOf, flagIn}
 use Rattle.board.specs.declared.Board.{Board}
 use Rattle.board.specs.declared.Component.{Component}
+use Rattle.board.proofs.Laws.{digit-fits, flag-digit, digit-flag}
 use Rattle.board_record.specs.Record.{placeOf}
 use Rattle.board_record.specs.declared.Record.{Record}
 use Rattle.board_record.specs.declared.State.{State}
 use Rattle.board_record.specs.declared.State.the-variants.{Idle, Preparing, HalfPrepared, Ready, Gathering, Together, Alone, HalfActivated, Dead}
 use Rattle.board_record.proofs.Clauses.{Sized}
-use Rattle.flat.specs.Records.{isFlag, flagIn, flatFlags, areFlags, subjectNumber, stateIn, isState, flatComponent, componentIn, isFlatComponent, absentFlat, flatComponents, componentsIn, areFlatComponents, flatBoard, boardIn, flatWith, flatOf, recordIn, isFlat}
+use Rattle.flat.specs.Records.{isFlag, flatFlags, areFlags, subjectNumber, stateIn, isState, flatComponent, componentIn, isFlatComponent, absentFlat, flatComponents, componentsIn, areFlatComponents, flatBoard, boardIn, flatWith, flatOf, recordIn, isFlat}
 use Rattle.flat.specs.declared.FlatBoard.{FlatBoard}
 use Rattle.flat.specs.declared.FlatComponent.{FlatComponent}
 use Rattle.flat.specs.declared.FlatRecord.{FlatRecord}
 
 -- ---- tables: what undoes itself at each place undoes itself
-list-places : {A : Type 0} (n : ℕ) (l : List A) (d : A) → length l ≡ n → firsts n (λ i. getD l i d) ≡ l
-list-places n l d e =
-    firsts-same n (λ i. getD l i d) (λ i. getD l (0 + i) d) (λ i h. rw zero-add) ∙ firsts-part n 0 l d (omega (arith, e)) ∙ take-all n l (omega (arith, e))
-
 there-back : {A B : Type 0} (n : ℕ) (f : A → B) (g : B → A) (l : List A) (a : A) (b : B) → length l ≡ n
     → ((i : ℕ) → i < n → g (f (getD l i a)) ≡ getD l i a) → firsts n (λ i. g (getD (firsts n (λ k. f (getD l k a))) i b)) ≡ l
 there-back n f g l a b e back =
     firsts-same n (λ i. g (getD (firsts n (λ k. f (getD l k a))) i b)) (λ i. getD l i a)
     (λ i h. ap g (getD-firsts (λ k. f (getD l k a)) n i b h) ∙ back i h)
-    ∙ list-places n l a e
+    ∙ firsts-all n l a e
 
 -- ---- flags
-pub flag-back : (b : Bool) → flagIn (digitOf b) ≡ b
-flag-back true = refl
-flag-back false = refl
-
 flag-is : (b : Bool) → isFlag (digitOf b) ≡ true
-flag-is true = refl
-flag-is false = refl
+flag-is b = le-leb (digitOf b) 1 (omega (arith, digit-fits b))
 
-pub flag-there : (n : ℕ) → isFlag n ≡ true → digitOf (flagIn n) ≡ n
-flag-there zero e = refl
-flag-there (suc zero) e = refl
-flag-there (suc (suc n)) e = let l = leb-true (suc (suc n)) 1 e in absurd (omega arith)
+flag-there : (n : ℕ) → isFlag n ≡ true → digitOf (flagIn n) ≡ n
+flag-there n e = digit-flag n (omega (arith, leb-true n 1 e))
 
 -- ---- states
 pub state-back : (s : State) → stateIn (placeOf s) (subjectNumber s) ≡ s
@@ -101,7 +89,7 @@ state-there (suc (suc (suc (suc (suc (suc (suc (suc (suc n))))))))) c e = absurd
 -- ---- components and boards
 pub component-back : (c : Component) → componentIn (flatComponent c) ≡ c
 unfolding flatComponent componentIn
-component-back c = rw (flag-back (c .capable), flag-back (c .«may_reset»), flag-back (c .optional))
+component-back c = rw (flag-digit (c .capable), flag-digit (c .«may_reset»), flag-digit (c .optional))
 
 component-is : (c : Component) → isFlatComponent (flatComponent c) ≡ true
 unfolding flatComponent
@@ -146,7 +134,7 @@ module _ (r : Record) (components : length (r .board .component) ≡ mostCompone
   pub record-back : recordIn (flatOf r) ≡ r
   unfolding recordIn flatWith
   record-back =
-      rw (board-back (r .board) components, there-back mostComponents digitOf flagIn (r .pending) false 0 (z .pending) (λ i h. flag-back (getD (r .pending) i false)), state-back (r .state), flag-back (r .informed))
+      rw (board-back (r .board) components, there-back mostComponents digitOf flagIn (r .pending) false 0 (z .pending) (λ i h. flag-digit (getD (r .pending) i false)), state-back (r .state), flag-digit (r .informed))
 
 -- numbers that are a record's are its numbers
 pub flat-there : (f : FlatRecord) → SizedFlat f → isFlat f ≡ true → flatOf (recordIn f) ≡ f

@@ -10,7 +10,7 @@ use native.Mathlib.Omega.{arith}
 use Rattle.basics.specs.Choice.{pick, pick-cases, refuted, and-left, and-right}
 use Rattle.basics.specs.Places.{length-firsts}
 use Rattle.board.specs.Description.{mostComponents}
-use Rattle.board.specs.Packed.{readOf, accepted}
+use Rattle.board.specs.Packed.{flagIn, readOf, accepted}
 use Rattle.board.proofs.Round.{read-stands, read-long}
 use Rattle.board.specs.declared.Board.{Board}
 use Rattle.board_record.specs.Record.{freshOf}
@@ -33,13 +33,14 @@ use Rattle.agent.specs.declared.Outcome.the-variants.{Refused, Accepted}
 use Rattle.agent.specs.declared.Release.{Release}
 use Rattle.agent.specs.declared.Release.the-variants as release
 use Rattle.agent.specs.declared.Stepped.{Stepped}
-use Rattle.agent.proofs.Kept.{step-kept, step-board}
+use Rattle.agent.proofs.Kept.{step-kept}
+use Rattle.agent.proofs.Stays.{step-board}
 use Rattle.agent.proofs.Refused.{refused-stays, never-nine}
 use Rattle.logbook.specs.Log.{blank}
 use Rattle.trace.specs.Logged.{outcomeOf, loggedOf}
 use Rattle.flat.specs.Answers.{eventIn, returnedOf, releaseNumber, freedOf, refusedAnswer, acceptedAnswer, answerOf, callerIn, releaseIn, acceptedIn, loggedIn}
 use Rattle.flat.specs.Calls.{freshIn, noEvent, keptWith, throughOf, stepOf, entriesOf, contextsOf}
-use Rattle.flat.specs.Records.{flagIn, flatWith, flatOf, flatBoard, boardIn, recordIn, isFlat, flatStands, areFlatComponents, componentIn, absentFlat, componentsIn}
+use Rattle.flat.specs.Records.{flatWith, flatOf, flatBoard, boardIn, recordIn, isFlat, flatStands, areFlatComponents, componentIn, absentFlat, componentsIn}
 use Rattle.flat.specs.declared.FlatAnswer.{FlatAnswer}
 use Rattle.flat.specs.declared.FlatBoard.{FlatBoard}
 use Rattle.flat.specs.declared.FlatEvent.{FlatEvent}
@@ -190,15 +191,7 @@ module _ (f : FlatRecord) (z : SizedFlat f) (e : FlatEvent) (entries contexts : 
 -- ---- refusal 9 is for what is not well formed, and for nothing else
 nine-only : (x : Refusal) → refusedAnswer (numberOf x) .refusal ≡ 9 → x ≡ NotWellFormed
 unfolding refusedAnswer
-nine-only NotWellFormed e = refl
-nine-only TableShort e = absurd (omega arith)
-nine-only NoSuchCpu e = absurd (omega arith)
-nine-only CpuOff e = absurd (omega arith)
-nine-only CpuHeld e = absurd (omega arith)
-nine-only NoSuchJob e = absurd (omega arith)
-nine-only CodeNotAllowed e = absurd (omega arith)
-nine-only NotCapable e = absurd (omega arith)
-nine-only StateComponent e = absurd (omega arith)
+nine-only x e = let same : Refused x ≡ Refused NotWellFormed = sym (refused-back x) ∙ ap (λ (n : ℕ). outcomeIn (refusedAnswer n)) e in cc
 
 ill-formed : (r : Record) (e : Event) (n m : ℕ) → wellFormed r ≡ false → agent.stepOf r e n m .outcome ≡ Refused NotWellFormed
 unfolding agent.stepOf decideOf refusedOf

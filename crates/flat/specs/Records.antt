@@ -10,7 +10,7 @@ use Rattle.basics.specs.Every.{allBelow}
 use Rattle.basics.specs.Places.{firsts}
 use Rattle.cpuset.specs.Set.{noneOf}
 use Rattle.board.specs.Description.{mostComponents, mostCpus, uuidBytes, absent}
-use Rattle.board.specs.Packed.{digitOf}
+use Rattle.board.specs.Packed.{digitOf, flagIn}
 use Rattle.board.specs.declared.Board.{Board}
 use Rattle.board.specs.declared.Component.{Component}
 use Rattle.board_record.specs.Record.{subjectOf, placeOf}
@@ -27,9 +27,6 @@ use Rattle.flat.specs.declared.FlatRecord.{FlatRecord}
 -- ---- flags
 abbrev pub isFlag : ℕ → Bool
 isFlag n = leb n 1
-
-abbrev pub flagIn : ℕ → Bool
-flagIn n = eqb n 1
 
 abbrev pub flatFlags : List Bool → List ℕ
 flatFlags from = firsts mostComponents (λ i. digitOf (getD from i false))

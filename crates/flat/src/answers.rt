@@ -30,7 +30,6 @@ use reader::Started;
 use rules::Event;
 use rules::Registers;
 ghost use mathlib.Core.Path.{_≡_};
-ghost use Rattle.logbook.specs.Log.{blank};
 ghost use Rattle.flat.specs.Answers.{eventIn, noRegisters, returnedOf, releaseNumber, freedOf, refusedAnswer, answerOf, callerIn, releaseIn, loggedIn, writtenBy, primedFound, foundOf, notFound, startedFound, preparedBy, notStarted, logRefused, startedBy};
 ghost use Rattle.flat.specs.Calls.{keptWith, throughOf};
 

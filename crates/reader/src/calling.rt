@@ -42,11 +42,7 @@ fn fields_valid(b: Board, call: Call, c: u64) -> bool
     if call.x2 != 0 {
         return false;
     }
-    if board::may_reset(b, c) {
-        board::good_entry(b.first, b.last, call.x3)
-    } else {
-        true
-    }
+    board::is_entry_right(b, c, call.x3)
 }
 
 // No activation without rendezvous began, and every other powered CPU became held in that time.

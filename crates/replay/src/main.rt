@@ -1,10 +1,9 @@
 // reads a log from standard input and writes which component is prepared at each place of it
 use libc::STDIN_FILENO;
 use libc::STDOUT_FILENO;
-use log_record::RECORD_BYTES;
 use logbook::Checked;
 use logbook::Flaw;
-use logbook::MOST_RECORDS;
+use logbook::MOST_BYTES;
 use logbook::Prepared;
 use logbook::Primed;
 ghost use mathlib.Core.Path.{_≡_};
@@ -13,7 +12,7 @@ ghost use Rattle.logbook.specs.declared.Checked.the-variants.{Records, Refused}
 ghost use Rattle.logbook.specs.Prepared.{preparedOf};
 
 // One byte more than the longest log: a log that fills it is too long, whatever follows.
-const ROOM: usize = MOST_RECORDS * RECORD_BYTES + 1;
+const ROOM: usize = MOST_BYTES + 1;
 
 fn text(s: &[u8]) {
     io::write_all(STDOUT_FILENO, s);

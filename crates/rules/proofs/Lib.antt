@@ -1,6 +1,7 @@
 pub mod Laws
 pub mod Table
-pub mod Guards
 pub mod States
-pub mod Pinned
 pub mod Named
+pub mod Facts
+pub mod Guards
+pub mod Pinned

@@ -1,10 +1,9 @@
 -- A word names a function exactly when it is the function's number. Assumes nothing.
 use Prim.Native.Nat.{ℕ}
 use mathlib.Core.Path.{_≡_, refl, ap, _∙_}
-use native.Mathlib.Omega.{arith}
 use lib.Dec.{eqb}
 use borrow.Author.Tests.{eqb-true}
-use Rattle.basics.specs.Choice.{pick, pick-cases}
+use Rattle.basics.specs.Choice.{pick, pick-cases, never}
 use Rattle.codes.specs.Numbers.{versionNumber, featuresNumber, infoNumber, inventoryNumber, primeNumber, activateNumber, cancelNumber, offNumber, onNumber}
 use Rattle.rules.specs.Numbers.{decodeOf}
 use Rattle.rules.specs.declared.numbers.Function.{Function}
@@ -37,7 +36,7 @@ unfolding decodeOf
 named w f =
     choice w f function.Version _ (choice w f function.Features _ (choice w f function.GetInfo _ (choice w f function.GetInventory _
     (choice w f function.Prime _ (choice w f function.Activate _ (choice w f function.Cancel _ (choice w f function.CpuOff _
-    (choice w f function.CpuOn Unknown (λ e. let z : _≡_ {A = ℕ} 0 1 = cc in absurd (omega arith))))))))))
+    (choice w f function.CpuOn Unknown (λ e. never cc)))))))))
 
 pub names : (f : Function) → decodeOf (numberFor f) ≡ Known f
 unfolding decodeOf

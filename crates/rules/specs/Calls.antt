@@ -1,15 +1,15 @@
--- What each call calls for (document 01, "Calls"). Assumes nothing.
+-- What each call calls for (document 01, "Calls"; refusals 2 to 4 and the registers of a return: "Events and what they answer").
+-- (H) marks a house choice. Assumes nothing.
 use Prim.Native.Nat.{ℕ, zero, suc, _+_, _*_}
-use mathlib.Core.Bool.{Bool, true, false, not, _&&_}
+use mathlib.Core.Bool.{Bool, false, not, _&&_}
 use mathlib.Core.List.{List}
 use lib.Dec.{eqb, leb, ltb}
 use lib.ListN.{getD}
 use Rattle.basics.specs.Choice.{pick}
 use Rattle.codes.specs.Numbers.{versionNumber, cancelNumber, functionNumber}
 use Rattle.cpuset.specs.Set.{hasOf, onlyOf, withOf, sameOf}
-use Rattle.board.specs.Description.{numberedOf, isCapable, mayReset, goodEntry}
+use Rattle.board.specs.Description.{numberedOf, isCapable, mayReset, goodEntry, entryRight}
 use Rattle.board.specs.Packed.{digitOf}
-use Rattle.board.specs.declared.Board.{Board}
 use Rattle.board.specs.declared.Component.{Component}
 use Rattle.board_record.specs.Record.{subjectOf, isFor, skipsRendezvous, isGathering, isAlone, isPending, versionOf}
 use Rattle.board_record.specs.declared.Record.{Record}
@@ -93,11 +93,11 @@ unfoldable pub arrivalOf : Call → Bool → Arrival
 arrivalOf call keeps =
     record { component = call .x1; cpu = call .cpu; entry = pick keeps (call .x3) 0; context = pick keeps (call .x4) 0 }
 
--- "-7 for an id that is no component, .. not capable or not pending"
+-- "-7 for an id that is no component, .. not capable or not pending (H)"
 unfoldable pub mayPrime : Record → ℕ → Bool
 mayPrime r id = isCapable (r .board) id && isPending (r .pending) id
 
--- "then -3 if the image version is below the SVN; else prime starts and the caller is held"
+-- "then -3 if the image version is below the SVN (H); else prime starts and the caller is held"
 unfoldable pub tryPrimeOf : Record → Call → Move
 tryPrimeOf r call =
     pick (mayPrime r (call .x1))
@@ -120,11 +120,11 @@ primeOf r call = primeBy (ruleOf (r .state) .prime) r call
 
 -- ---- ACTIVATE
 
--- X2 is the flags; bit 0 is skip
+-- X2 is the flags; with none above bit 0, skip is 1
 abbrev pub skips : Call → Bool
 skips call = eqb (call .x2) 1
 
--- skip needs optional and no gathering; without skip, no activation without rendezvous began
+-- "skip on a component that isn't optional, .. skip in gathering, .. no skip in alone or half-activated (H)": none of these
 unfoldable pub skipRight : Component → State → Bool → Bool
 skipRight c s skip = pick skip (pick (isGathering s) false (c .optional)) (not (skipsRendezvous s))
 
@@ -134,21 +134,18 @@ fieldsRight r call =
     isFor (r .state) (call .x1)
     && pick (ltb 1 (call .x2)) false (skipRight (numberedOf (r .board) (call .x1)) (r .state) (skips call))
 
--- "with may_reset, -10 unless X3 is a multiple of 4 in the range; without it X3 and X4 are ignored"
-unfoldable pub entryRight : Board → Call → Bool
-entryRight b call = pick (mayReset b (call .x1)) (goodEntry (b .first) (b .last) (call .x3)) true
-
 -- "Without skip the caller is held; if all powered CPUs are now held, activation starts, state together; else gathering"
 unfoldable pub joinOf : Record → Call → Move
 joinOf r call =
     let a = arrivalOf call (mayReset (r .board) (call .x1)) in
     pick (sameOf (withOf (r .held) (call .cpu)) (r .on)) (StartTogether a) (Gather a)
 
--- "Then -2 in alone. Then skip starts activation, state alone, caller held"
+-- "Then, with may_reset, -10 unless X3 is a multiple of 4 in the range (H); without it X3 and X4 are ignored. Then -2 in alone. Then
+-- skip starts activation, state alone, caller held"
 unfoldable pub tryActivateOf : Record → Call → Move
 tryActivateOf r call =
     pick (fieldsRight r call)
-    (pick (entryRight (r .board) call)
+    (pick (entryRight (r .board) (call .x1) (call .x3))
     (pick (isAlone (r .state)) (says 2)
     (pick (skips call) (StartAlone (arrivalOf call false))
     (joinOf r call)))
@@ -179,7 +176,7 @@ cancelBy cancel.NoCaller = noCaller
 unfoldable pub cancelOf : Record → Call → Move
 cancelOf r call = pick (isOther (r .state) (call .x1)) (says 8) (cancelBy (ruleOf (r .state) .cancel))
 
--- ---- CPU_OFF: "-3 if frozen or the last one on; else gone"
+-- ---- CPU_OFF: "-3 if frozen or the last one on (H); else gone"
 unfoldable pub offFree : Record → ℕ → Move
 offFree r cpu = pick (sameOf (r .on) (onlyOf cpu)) (says 3) (PowerOff cpu)
 
@@ -191,7 +188,7 @@ offBy power.NoCaller r cpu = noCaller
 abbrev pub offOf : Record → ℕ → Move
 offOf r cpu = offBy (ruleOf (r .state) .power) r cpu
 
--- ---- CPU_ON: "-2 no such target; -9 bad entry as above; -4 already on; -6 if frozen; else 0 and the target resumes"
+-- ---- CPU_ON: "-2 no such target; -9 bad entry as above; -4 already on; -6 if frozen (H); else 0 and the target resumes"
 abbrev pub wakeBy : PowerCell → Call → Move
 wakeBy power.Free call = PowerOn (record { target = call .x1; entry = call .x2; context = call .x3 })
 wakeBy power.Frozen call = says 6

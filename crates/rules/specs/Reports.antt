@@ -1,43 +1,28 @@
 -- What reports and images call for (document 01, "Reports" and "Events and what they answer"). Assumes nothing.
 use Prim.Native.Nat.{ℕ}
-use mathlib.Core.Bool.{Bool, false, not, _&&_}
+use mathlib.Core.Bool.{Bool, not, _&&_}
+use mathlib.Core.List.{[], _∷_}
 use lib.Dec.{eqb}
 use Rattle.basics.specs.Choice.{pick}
+use Rattle.basics.specs.Every.{oneOf}
 use Rattle.codes.specs.Codes.{byReset, isPrimeCode, isActivateCode}
 use Rattle.board.specs.Description.{isCapable, mayReset}
-use Rattle.board_record.specs.Record.{isFor, isAlone}
+use Rattle.board_record.specs.Record.{isFor, placeOf, togetherPlace, alonePlace, isPreparing, isAlone}
 use Rattle.board_record.specs.declared.Record.{Record}
 use Rattle.board_record.specs.declared.State.{State}
-use Rattle.board_record.specs.declared.State.the-variants.{Idle, Preparing, HalfPrepared, Ready, Gathering, Together, Alone, HalfActivated, Dead}
 use Rattle.rules.specs.declared.Report.{Report}
 use Rattle.rules.specs.declared.Image.{Image}
 use Rattle.rules.specs.declared.Refusal.the-variants.{NoSuchJob, CodeNotAllowed, NotCapable, StateComponent}
 use Rattle.rules.specs.declared.Move.{Move}
 use Rattle.rules.specs.declared.Move.the-variants.{Refuse, EndPrime, EndActivate, NoteImage}
 
--- a prime job is running for component id
+-- "preparing (job)": a prime job is running for component id
 abbrev pub isPriming : State → ℕ → Bool
-isPriming Idle id = false
-isPriming (Preparing c) id = eqb c id
-isPriming (HalfPrepared c) id = false
-isPriming (Ready c) id = false
-isPriming (Gathering c) id = false
-isPriming (Together c) id = false
-isPriming (Alone c) id = false
-isPriming (HalfActivated c) id = false
-isPriming Dead id = false
+isPriming s id = isPreparing s && isFor s id
 
--- an activate job is
+-- "together (job)", "alone (job)": an activate job is
 abbrev pub isActivating : State → ℕ → Bool
-isActivating Idle id = false
-isActivating (Preparing c) id = false
-isActivating (HalfPrepared c) id = false
-isActivating (Ready c) id = false
-isActivating (Gathering c) id = false
-isActivating (Together c) id = eqb c id
-isActivating (Alone c) id = eqb c id
-isActivating (HalfActivated c) id = false
-isActivating Dead id = false
+isActivating s id = oneOf (placeOf s) (togetherPlace ∷ alonePlace ∷ []) && isFor s id
 
 -- "12 in together with may_reset only": an activate job that is not in alone is in together
 abbrev pub resumesOf : Bool → Bool → Bool

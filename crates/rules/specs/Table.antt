@@ -37,6 +37,6 @@ inOrder = Idle ∷ Preparing 0 ∷ HalfPrepared 0 ∷ Ready 0 ∷ Gathering 0 �
 abbrev pub states : ℕ
 states = length inOrder
 
--- no state asks for a row past the last
+-- no state asks for a row past the last: the first cell of each kind there is the kit's reading of an array past its end
 abbrev pub rowAt : ℕ → Row
 rowAt i = getD (map ruleOf inOrder) i (cells prime.Try activate.Try cancel.ToIdle power.Free)

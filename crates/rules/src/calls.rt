@@ -10,8 +10,8 @@ use crate::cells::PowerCell;
 use crate::cells::PrimeCell;
 use crate::numbers::Decoded;
 use crate::numbers::Function;
-use board::Board;
 use board::Component;
+use board::digit;
 use board_record::Record;
 use board_record::State;
 use board_record::Subject;
@@ -21,8 +21,7 @@ use codes::VERSION;
 ghost use mathlib.Core.Path.{_≡_};
 ghost use Prim.Native.Nat.{_+_, _≤_};
 ghost use Rattle.board.specs.Description.{uuidBytes};
-ghost use Rattle.board.specs.Packed.{digitOf};
-ghost use Rattle.rules.specs.Calls.{returned, says, noCaller, wordOf, flagsOf, describedOf, featuresOf, infoOf, inventoryOf, mayPrime, arrivalOf, tryPrimeOf, trySameOf, primeOf, skipRight, fieldsRight, entryRight, joinOf, tryActivateOf, activateOf, isOther, cancelOf, offFree, offOf, wakeOf, onOf, functionOf, answerOf, callOf};
+ghost use Rattle.rules.specs.Calls.{returned, says, noCaller, wordOf, flagsOf, describedOf, featuresOf, infoOf, inventoryOf, mayPrime, arrivalOf, tryPrimeOf, trySameOf, primeOf, skipRight, fieldsRight, joinOf, tryActivateOf, activateOf, isOther, cancelOf, offFree, offOf, wakeOf, onOf, functionOf, answerOf, callOf};
 
 // The caller goes on with X0, and 0 in the other registers.
 fn go_on(x0: u64) -> Move
@@ -80,13 +79,6 @@ fn word(uuid: [u8; board::UUID_BYTES], i: usize) -> u64
         w = (uuid[i + 8 - n] as u64) + 256 * w;
     }
     w
-}
-
-fn digit(b: bool) -> u64
-    ensures { λ r. ⌜ r ≡ digitOf b ⌝ }
-    ensures { λ r. ⌜ r ≤ 1 ⌝ }
-{
-    if b { 1 } else { 0 }
 }
 
 fn flags(c: Component, pending: bool) -> u64
@@ -225,15 +217,6 @@ fn are_fields_right(rec: Record, call: Call) -> bool
     false
 }
 
-fn is_entry_right(b: Board, call: Call) -> bool
-    ensures { λ r. ⌜ r ≡ entryRight b call ⌝ }
-{
-    if board::may_reset(b, call.x1) {
-        return board::good_entry(b.first, b.last, call.x3);
-    }
-    true
-}
-
 // The caller joins those that are held: the last one starts the activation.
 fn join(rec: Record, call: Call) -> Move
     ensures { λ r. ⌜ r ≡ joinOf rec call ⌝ }
@@ -255,7 +238,7 @@ fn try_activate(rec: Record, call: Call) -> Move
     let s = rec.state;
     let b = rec.board;
     if are_fields_right(rec, call) {
-        if is_entry_right(b, call) {
+        if board::is_entry_right(b, call.x1, call.x3) {
             if board_record::is_alone(s) {
                 return say(2);
             }

@@ -3,8 +3,11 @@ use crate::Image;
 use crate::Move;
 use crate::Refusal;
 use crate::Report;
+use board_record::ALONE;
+use board_record::PREPARING;
 use board_record::Record;
 use board_record::State;
+use board_record::TOGETHER;
 use codes::BY_RESET;
 ghost use mathlib.Core.Path.{_≡_};
 ghost use Rattle.rules.specs.Reports.{isPriming, isActivating, resumesOf, activateAllows, primeReportOf, activateReportOf, imageOf};
@@ -13,16 +16,10 @@ ghost use Rattle.rules.specs.Reports.{isPriming, isActivating, resumesOf
 fn is_priming(s: State, id: u64) -> bool
     ensures { λ r. ⌜ r ≡ isPriming s id ⌝ }
 {
-    match s {
-        State::Idle => false,
-        State::Preparing(c) => c == id,
-        State::HalfPrepared(_) => false,
-        State::Ready(_) => false,
-        State::Gathering(_) => false,
-        State::Together(_) => false,
-        State::Alone(_) => false,
-        State::HalfActivated(_) => false,
-        State::Dead => false,
+    if board_record::place_of(s) == PREPARING {
+        board_record::is_for(s, id)
+    } else {
+        false
     }
 }
 
@@ -30,16 +27,10 @@ fn is_priming(s: State, id: u64) -> bool
 fn is_activating(s: State, id: u64) -> bool
     ensures { λ r. ⌜ r ≡ isActivating s id ⌝ }
 {
-    match s {
-        State::Idle => false,
-        State::Preparing(_) => false,
-        State::HalfPrepared(_) => false,
-        State::Ready(_) => false,
-        State::Gathering(_) => false,
-        State::Together(c) => c == id,
-        State::Alone(c) => c == id,
-        State::HalfActivated(_) => false,
-        State::Dead => false,
+    match board_record::place_of(s) {
+        TOGETHER => board_record::is_for(s, id),
+        ALONE => board_record::is_for(s, id),
+        _ => false,
     }
 }
 

@@ -104,45 +104,47 @@ fn board_writing_refusals() {
     assert_eq!(Board::read(&room[..60]), Ok(wrong));
 }
 
-fn good_records() -> Vec<LogRecord> {
-    let mut records = Vec::new();
-    for outcome in 1..=5 {
-        records.push(LogRecord {
-            kind: CALL,
-            cpu: 63,
-            code: 0,
-            outcome,
-            words: [
-                1,
-                2,
-                u64::MAX,
-                4,
-                5,
-                if outcome == 1 { u64::MAX } else { 0 },
-            ],
-        });
+/// The codes of prime reports.
+const PRIME_CODES: [u64; 6] = [0, 1, 3, 4, 6, 11];
+/// The codes of activate reports.
+const ACTIVATE_CODES: [u64; 10] = [0, 1, 2, 3, 4, 5, 6, 9, 11, 12];
+
+fn good_call(outcome: u64) -> LogRecord {
+    let given = if outcome == 1 { u64::MAX } else { 0 };
+    LogRecord {
+        kind: CALL,
+        cpu: 63,
+        code: 0,
+        outcome,
+        words: [1, 2, u64::MAX, 4, 5, given],
     }
-    for (kind, codes) in [
-        (PRIME, &[0, 1, 3, 4, 6, 11][..]),
-        (ACTIVATE, &[0, 1, 2, 3, 4, 5, 6, 9, 11, 12]),
-    ] {
-        for &code in codes {
-            records.push(LogRecord {
-                kind,
-                cpu: 0,
-                code,
-                outcome: RELEASED,
-                words: [0, 31, 0, 0, 0, u64::MAX],
-            });
-        }
+}
+
+fn good_report(kind: u64, code: u64) -> LogRecord {
+    LogRecord {
+        kind,
+        cpu: 0,
+        code,
+        outcome: RELEASED,
+        words: [0, 31, 0, 0, 0, u64::MAX],
     }
-    records.push(LogRecord {
+}
+
+fn good_image() -> LogRecord {
+    LogRecord {
         kind: IMAGE,
         cpu: 0,
         code: 0,
         outcome: NOTED,
         words: [0, 31, 0xFFFF_FFFF, 0, 0, 0],
-    });
+    }
+}
+
+fn good_records() -> Vec<LogRecord> {
+    let mut records: Vec<_> = (1..=5).map(good_call).collect();
+    records.extend(PRIME_CODES.map(|code| good_report(PRIME, code)));
+    records.extend(ACTIVATE_CODES.map(|code| good_report(ACTIVATE, code)));
+    records.push(good_image());
     records
 }
 
@@ -163,101 +165,90 @@ fn log_records_round_trip() {
     }
 }
 
-/// What reading or writing these fields should be refused with.
-fn refusal(record: &LogRecord) -> Option<u64> {
-    let codes: &[u64] = match record.kind {
-        PRIME => &[0, 1, 3, 4, 6, 11],
-        ACTIVATE => &[0, 1, 2, 3, 4, 5, 6, 9, 11, 12],
-        _ => &[],
-    };
-    let report = record.kind == PRIME || record.kind == ACTIVATE;
-    let outcome = match record.kind {
+/// Whether the outcome, and the code of a report, go with the kind.
+fn head_fits(record: &LogRecord) -> bool {
+    match record.kind {
         CALL => (1..=5).contains(&record.outcome),
-        PRIME | ACTIVATE => record.outcome == 6,
+        PRIME => record.outcome == 6 && PRIME_CODES.contains(&record.code),
+        ACTIVATE => record.outcome == 6 && ACTIVATE_CODES.contains(&record.code),
         IMAGE => record.outcome == 7,
         _ => false,
-    };
-    if !outcome || report && !codes.contains(&record.code) {
+    }
+}
+
+/// Whether the fields that the kind uses are in their ranges.
+fn used_fields_fit(record: &LogRecord) -> bool {
+    let [_, component, version, ..] = record.words;
+    match record.kind {
+        CALL => record.cpu <= 63,
+        IMAGE => component <= 31 && version <= 0xFFFF_FFFF,
+        _ => component <= 31,
+    }
+}
+
+/// The fields that the kind and the outcome do not use.
+fn unused_fields(record: &LogRecord) -> Vec<u64> {
+    let (cpu, code) = (record.cpu, record.code);
+    let [word_1, _, word_3, word_4, word_5, word_6] = record.words;
+    match record.kind {
+        CALL if record.outcome == 1 => vec![code],
+        CALL => vec![code, word_6],
+        IMAGE => vec![cpu, code, word_1, word_4, word_5, word_6],
+        // Word 6 goes by the outcome alone, so code 12 may have any.
+        _ => vec![cpu, word_1, word_3, word_4, word_5],
+    }
+}
+
+/// What reading or writing these fields should be refused with.
+fn refusal(record: &LogRecord) -> Option<u64> {
+    if !head_fits(record) {
         return Some(32);
     }
-    let words = record.words;
-    let mut unused = Vec::new();
-    if record.kind == CALL {
-        unused.push(record.code);
-        if record.outcome != 1 {
-            unused.push(words[5]);
+    let unused_are_zero = unused_fields(record).iter().all(|&field| field == 0);
+    let fits = used_fields_fit(record) && unused_are_zero;
+    (!fits).then_some(31)
+}
+
+/// The record with one of its ten fields changed.
+fn with_field(mut record: LogRecord, field: usize, value: u64) -> LogRecord {
+    match field {
+        0 => record.kind = value,
+        1 => record.cpu = value,
+        2 => record.code = value,
+        3 => record.outcome = value,
+        word => record.words[word - 4] = value,
+    }
+    record
+}
+
+/// The record with each field in turn at small numbers and around the limits.
+fn one_field_changed(good: LogRecord) -> impl Iterator<Item = LogRecord> {
+    let limits = [11, 12, 16, 31, 32, 63, 64, 67, 1 << 32, u64::MAX];
+    let values = (0..=8).chain(limits);
+    values.flat_map(move |value| (0..10).map(move |field| with_field(good, field, value)))
+}
+
+/// A record is written and reads back, or is refused and nothing is written.
+fn check_writing(record: LogRecord) {
+    let mut bytes = [7; 51];
+    match refusal(&record) {
+        None => {
+            assert_eq!(record.write(&mut bytes), Ok(51));
+            assert_eq!(LogRecord::read(&bytes), Ok(record));
         }
-        if record.cpu > 63 {
-            return Some(31);
-        }
-    } else {
-        unused.extend([record.cpu, words[0], words[3], words[4]]);
-        if words[1] > 31 {
-            return Some(31);
+        Some(expected) => {
+            assert_eq!(number(record.write(&mut bytes)), expected);
+            assert_eq!(number(record.write(&mut [])), expected);
+            assert_eq!(bytes, [7; 51]);
         }
     }
-    // Word 6 goes by the outcome alone, so code 12 may have any.
-    if report {
-        unused.push(words[2]);
-    }
-    if record.kind == IMAGE {
-        unused.extend([record.code, words[5]]);
-        if words[2] > 0xFFFF_FFFF {
-            return Some(31);
-        }
-    }
-    unused.iter().any(|&word| word != 0).then_some(31)
 }
 
 #[test]
 fn log_writing_refusals() {
-    let values = [
-        0,
-        1,
-        2,
-        3,
-        4,
-        5,
-        6,
-        7,
-        8,
-        11,
-        12,
-        16,
-        31,
-        32,
-        63,
-        64,
-        67,
-        1 << 32,
-        u64::MAX,
-    ];
     for good in good_records() {
         assert_eq!(refusal(&good), None);
-        for field in 0..10 {
-            for value in values {
-                let mut record = good;
-                match field {
-                    0 => record.kind = value,
-                    1 => record.cpu = value,
-                    2 => record.code = value,
-                    3 => record.outcome = value,
-                    word => record.words[word - 4] = value,
-                }
-                let mut bytes = [7; 51];
-                match refusal(&record) {
-                    None => {
-                        assert_eq!(record.write(&mut bytes), Ok(51));
-                        assert_eq!(LogRecord::read(&bytes), Ok(record));
-                    }
-                    Some(expected) => {
-                        assert_eq!(number(record.write(&mut bytes)), expected);
-                        assert_eq!(number(record.write(&mut [])), expected);
-                        assert_eq!(bytes, [7; 51]);
-                    }
-                }
-            }
-        }
+        one_field_changed(good).for_each(check_writing);
     }
 }
 

@@ -82,33 +82,63 @@ fn a_cancel_releases_only_those_held_for_activate() {
     assert_eq!(held, [0, 1, 3, 1]);
 }
 
-fn any_event(bench: &Bench, dice: &mut Dice) -> Event {
-    let record = &bench.record;
-    // Mostly the state's component, so that most walks get somewhere.
-    let id = match record.state.component() {
+/// What events are made of.
+struct Parts {
+    id: u64,
+    cpu: u64,
+    code: u64,
+    entry: u64,
+}
+
+impl Parts {
+    fn any(record: &Record, dice: &mut Dice) -> Self {
+        Self {
+            id: any_component(record, dice),
+            cpu: dice.below(record.board.cpus + 1),
+            code: any_code(dice),
+            entry: dice.one_of(&[GOOD, GOOD, FIRST, LAST - 3, LAST, 0]),
+        }
+    }
+}
+
+/// Mostly the state's component, so that most walks get somewhere.
+fn any_component(record: &Record, dice: &mut Dice) -> u64 {
+    match record.state.component() {
         Some(own) if dice.below(8) != 0 => own,
         _ if dice.below(3) == 0 => OPTIONAL,
         _ => dice.below(record.board.components + 1),
-    };
-    let cpu = dice.below(record.board.cpus + 1);
+    }
+}
+
+fn any_code(dice: &mut Dice) -> u64 {
     let code = dice.one_of(&[0, 0, 0, 1, 1, 2, 2, 3, 4, 5, 6, 9, 11, 12, 12, 13]);
     // Dead is the end of a walk: come to it seldom.
-    let code = if code == 5 && dice.below(20) != 0 {
+    if code == 5 && dice.below(20) != 0 {
         2
     } else {
         code
-    };
-    let entry = dice.one_of(&[GOOD, GOOD, FIRST, LAST - 3, LAST, 0]);
-    // Now and then what moves the state on.
-    if dice.below(2) == 0 {
-        match record.state {
-            State::Idle if !record.pending.contains(&true) => return image(id, 5),
-            State::Idle | State::HalfPrepared(_) => return prime(cpu, id),
-            State::Preparing(_) => return primed(id, code),
-            State::Together(_) | State::Alone(_) => return activated(id, code),
-            _ => {}
-        }
     }
+}
+
+/// What moves the state on, where a report, an image or PRIME does.
+fn onward(record: &Record, parts: &Parts) -> Option<Event> {
+    match record.state {
+        State::Idle if !record.pending.contains(&true) => Some(image(parts.id, 5)),
+        State::Idle | State::HalfPrepared(_) => Some(prime(parts.cpu, parts.id)),
+        State::Preparing(_) => Some(primed(parts.id, parts.code)),
+        State::Together(_) | State::Alone(_) => Some(activated(parts.id, parts.code)),
+        _ => None,
+    }
+}
+
+/// An event of any kind, whatever the state.
+fn any_kind(cpus: u64, parts: &Parts, dice: &mut Dice) -> Event {
+    let &Parts {
+        id,
+        cpu,
+        code,
+        entry,
+    } = parts;
     match dice.below(24) {
         0 | 1 => image(id, dice.one_of(&[4, 5, 6, 7])),
         2 | 3 => prime(cpu, id),
@@ -122,11 +152,7 @@ fn any_event(bench: &Bench, dice: &mut Dice) -> Event {
         15..=17 => activated(id, code),
         18 => cancel(cpu, id),
         19 => cpu_off(cpu),
-        20 | 21 => call(
-            cpu,
-            Function::CpuOn,
-            [dice.below(record.board.cpus + 1), entry, 1, 0],
-        ),
+        20 | 21 => call(cpu, Function::CpuOn, [dice.below(cpus + 1), entry, 1, 0]),
         22 => call(
             cpu,
             dice.one_of(&[Function::GetInfo, Function::GetInventory]),
@@ -140,55 +166,86 @@ fn any_event(bench: &Bench, dice: &mut Dice) -> Event {
     }
 }
 
+fn any_event(record: &Record, dice: &mut Dice) -> Event {
+    let parts = Parts::any(record, dice);
+    // Else most walks would stay where they are.
+    let moves_on = dice.below(2) == 0;
+    match onward(record, &parts) {
+        Some(event) if moves_on => event,
+        _ => any_kind(record.board.cpus, &parts, dice),
+    }
+}
+
+/// What the agent did with an event.
+#[derive(Clone, Copy, PartialEq)]
+enum Effect {
+    Held,
+    StartedTogether,
+    StartedAlone,
+    Other,
+}
+
+fn effect(bench: &mut Bench, event: &Event) -> Effect {
+    let caller = bench.step(event).map(|answer| answer.caller);
+    match (caller, bench.record.state) {
+        (Ok(Caller::ActivationStarted), State::Together(_)) => Effect::StartedTogether,
+        (Ok(Caller::ActivationStarted), State::Alone(_)) => Effect::StartedAlone,
+        (Ok(Caller::Held), _) => Effect::Held,
+        _ => Effect::Other,
+    }
+}
+
+/// The log tells what the record has: what is prepared, who is on and held.
+fn check_reading(bench: &Bench, described: &[u8]) {
+    let (record, place) = (&bench.record, bench.log.len() / 51);
+    let ready = match record.state {
+        State::Ready(id) | State::Gathering(id) | State::Together(id) => Some(id),
+        State::Alone(id) | State::HalfActivated(id) => Some(id),
+        _ => None,
+    };
+    assert_eq!(prepared_at(&bench.log, place).unwrap().component, ready);
+    assert_eq!(powered_at(described, &bench.log, place), Ok(record.on));
+    assert_eq!(held_at(described, &bench.log, place), Ok(record.held));
+}
+
+/// The log tells what an event starts, before the agent gets it.
+fn check_event(bench: &mut Bench, described: &[u8], event: &Event) -> Effect {
+    let place = bench.log.len() / 51;
+    let read = match event {
+        Event::Call(call) => starts_at(described, &bench.log, place, call).unwrap(),
+        _ => None,
+    };
+    let effect = effect(bench, event);
+    let started = match effect {
+        Effect::StartedTogether => bench.record.state.component(),
+        _ => None,
+    };
+    assert_eq!(read, started);
+    effect
+}
+
+fn check_walk(mut bench: Bench, dice: &mut Dice) -> Vec<Effect> {
+    let described = described(&bench.record.board);
+    let mut effects = Vec::new();
+    for _ in 0..250 {
+        let event = any_event(&bench.record, dice);
+        check_reading(&bench, &described);
+        effects.push(check_event(&mut bench, &described, &event));
+    }
+    effects
+}
+
 #[test]
 fn the_reader_agrees_with_the_agent() {
     let mut dice = Dice(0xFEDC_BA98_7654_3211);
-    let (mut together, mut alone, mut gathering) = (0, 0, 0);
+    let mut effects = Vec::new();
     for walk in 0..400 {
         let cpus = 1 + walk % 4;
-        let mut bench = Bench::new(board(4, cpus), 1 + walk / 4 % cpus);
-        let described = described(&bench.record.board);
-        for _ in 0..250 {
-            let place = bench.log.len() / 51;
-            let event = any_event(&bench, &mut dice);
-            let ready = match bench.record.state {
-                State::Ready(id) | State::Gathering(id) | State::Together(id) => Some(id),
-                State::Alone(id) | State::HalfActivated(id) => Some(id),
-                _ => None,
-            };
-            assert_eq!(prepared_at(&bench.log, place).unwrap().component, ready);
-            assert_eq!(
-                powered_at(&described, &bench.log, place),
-                Ok(bench.record.on)
-            );
-            assert_eq!(
-                held_at(&described, &bench.log, place),
-                Ok(bench.record.held)
-            );
-            let read = match &event {
-                Event::Call(call) => starts_at(&described, &bench.log, place, call).unwrap(),
-                _ => None,
-            };
-            let answer = bench.step(&event);
-            let started = match (answer, bench.record.state) {
-                (Ok(answer), State::Together(id)) if answer.caller == Caller::ActivationStarted => {
-                    together += 1;
-                    Some(id)
-                }
-                (Ok(answer), State::Alone(_)) if answer.caller == Caller::ActivationStarted => {
-                    alone += 1;
-                    None
-                }
-                (Ok(answer), _) if answer.caller == Caller::Held => {
-                    gathering += 1;
-                    None
-                }
-                _ => None,
-            };
-            assert_eq!(read, started);
-        }
+        let bench = Bench::new(board(4, cpus), 1 + walk / 4 % cpus);
+        effects.extend(check_walk(bench, &mut dice));
     }
-    let counts = [together, alone, gathering];
+    let count = |effect| effects.iter().filter(|&&each| each == effect).count();
+    let counts = [Effect::StartedTogether, Effect::StartedAlone, Effect::Held].map(count);
     assert!(counts.iter().all(|&count| count > 100), "{counts:?}");
 }
 

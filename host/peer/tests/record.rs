@@ -5,71 +5,95 @@ mod common;
 use common::*;
 use peer::*;
 
-/// The rules for a well formed record, one after the other.
+/// The rules for a well formed record; the later ones rely on the earlier ones.
 fn well_formed(record: &Record) -> bool {
     let board = &record.board;
-    if board.components < 1 || board.components > 32 || board.cpus < 1 || board.cpus > 64 {
-        return false;
-    }
-    let exists = |id: u64| id < board.components;
-    for id in 0..32u64 {
-        let place = id as usize;
-        let each = board.component[place];
-        if !exists(id) && (each != Component::default() || record.pending[place]) {
-            return false;
-        }
-        if !record.pending[place] && record.version[place] != 0 {
-            return false;
-        }
-        if each.optional && each.may_reset || record.pending[place] && !each.capable {
-            return false;
-        }
-        for other in 0..32 {
-            let twice = board.component[other as usize].uuid == each.uuid;
-            if other != id && exists(id) && exists(other) && twice {
-                return false;
-            }
-        }
-    }
-    if board.first > board.last || record.on == 0 {
-        return false;
-    }
-    let has = |set: u64, cpu: u64| set >> cpu & 1 == 1;
-    let counted = |set: u64| u64::from(set.count_ones());
-    if (board.cpus..64).any(|cpu| has(record.on, cpu)) || record.held & record.on != record.held {
-        return false;
-    }
-    let mut may_reset = false;
-    if let Some(id) = record.state.component() {
-        if !exists(id) || !record.pending[id as usize] {
-            return false;
-        }
-        let each = board.component[id as usize];
-        if record.version[id as usize] < each.svn {
-            return false;
-        }
-        if matches!(record.state, State::Alone(_) | State::HalfActivated(_)) && !each.optional {
-            return false;
-        }
-        may_reset = each.may_reset;
-    }
-    let held = counted(record.held);
-    let (held_fits, for_activate) = match record.state {
-        State::Preparing(_) => (held == 1, false),
-        State::Alone(_) => (held == 1, true),
-        State::Gathering(_) => (0 < held && held < counted(record.on), true),
-        State::Together(_) => (held == counted(record.on), true),
-        _ => (held == 0, false),
+    counts_fit(board)
+        && (0..32).all(|id| component_fits(record, id) && uuid_is_its_own(board, id))
+        && board.first <= board.last
+        && power_fits(record)
+        && state_fits(record)
+        && held_fit(record)
+        && (0..64).all(|cpu| entry_fits(record, cpu))
+}
+
+fn counts_fit(board: &Board) -> bool {
+    (1..=32).contains(&board.components) && (1..=64).contains(&board.cpus)
+}
+
+/// The flags and the image go together, and past the count all is 0.
+fn component_fits(record: &Record, id: u64) -> bool {
+    let place = id as usize;
+    let each = record.board.component[place];
+    let pending = record.pending[place];
+    let blank = each == Component::default() && !pending;
+    (id < record.board.components || blank)
+        && (pending || record.version[place] == 0)
+        && !(each.optional && each.may_reset)
+        && (each.capable || !pending)
+}
+
+/// No other component has the same UUID.
+fn uuid_is_its_own(board: &Board, id: u64) -> bool {
+    let uuid = |id: u64| board.component[id as usize].uuid;
+    let twice = |other| other != id && uuid(other) == uuid(id);
+    id >= board.components || !(0..board.components).any(twice)
+}
+
+fn has(set: u64, cpu: u64) -> bool {
+    set >> cpu & 1 == 1
+}
+
+/// A CPU is on, all that are on exist, and all that are held are on.
+fn power_fits(record: &Record) -> bool {
+    record.on != 0
+        && !(record.board.cpus..64).any(|cpu| has(record.on, cpu))
+        && record.held & record.on == record.held
+}
+
+/// The state's component is pending, not below its SVN, and optional where alone.
+fn state_fits(record: &Record) -> bool {
+    let Some(id) = record.state.component() else {
+        return true;
     };
-    held_fits
-        && (0..64).all(|cpu| {
-            let (entry, context) = (record.entry[cpu as usize], record.context[cpu as usize]);
-            if may_reset && for_activate && has(record.held, cpu) {
-                entry % 4 == 0 && board.first <= entry && entry <= board.last
-            } else {
-                entry == 0 && context == 0
-            }
-        })
+    let place = id as usize;
+    let alone = matches!(record.state, State::Alone(_) | State::HalfActivated(_));
+    id < record.board.components
+        && record.pending[place]
+        && record.version[place] >= record.board.component[place].svn
+        && (record.board.component[place].optional || !alone)
+}
+
+/// As many CPUs are held as the state needs.
+fn held_fit(record: &Record) -> bool {
+    let (held, on) = (record.held.count_ones(), record.on.count_ones());
+    match record.state {
+        State::Preparing(_) | State::Alone(_) => held == 1,
+        State::Gathering(_) => 0 < held && held < on,
+        State::Together(_) => held == on,
+        _ => held == 0,
+    }
+}
+
+/// Whether held CPUs have entries: held for ACTIVATE, with may_reset.
+fn keeps_entries(record: &Record) -> bool {
+    match record.state {
+        State::Gathering(id) | State::Together(id) | State::Alone(id) => {
+            record.board.component[id as usize].may_reset
+        }
+        _ => false,
+    }
+}
+
+/// An entry that is kept is good; elsewhere entry and context are 0.
+fn entry_fits(record: &Record, cpu: u64) -> bool {
+    let board = &record.board;
+    let (entry, context) = (record.entry[cpu as usize], record.context[cpu as usize]);
+    if keeps_entries(record) && has(record.held, cpu) {
+        entry % 4 == 0 && board.first <= entry && entry <= board.last
+    } else {
+        entry == 0 && context == 0
+    }
 }
 
 /// Records in every state, on small and full boards.
@@ -98,25 +122,42 @@ fn samples() -> Vec<Record> {
     samples
 }
 
+/// Numbers at the limits of one field or another.
+const WORDS: [u64; 15] = [
+    0,
+    1,
+    2,
+    3,
+    4,
+    31,
+    32,
+    33,
+    63,
+    64,
+    65,
+    GOOD,
+    FIRST,
+    LAST,
+    u64::MAX,
+];
+
+fn any_state(dice: &mut Dice, small: u64, word: u64) -> State {
+    match dice.below(9) {
+        0 => State::Idle,
+        1 => State::Preparing(small),
+        2 => State::HalfPrepared(small),
+        3 => State::Ready(small),
+        4 => State::Gathering(small),
+        5 => State::Together(small),
+        6 => State::Alone(small),
+        7 => State::HalfActivated(word),
+        _ => State::Dead,
+    }
+}
+
+/// Changes one field.
 fn damage(record: &mut Record, dice: &mut Dice) {
-    let words = [
-        0,
-        1,
-        2,
-        3,
-        4,
-        31,
-        32,
-        33,
-        63,
-        64,
-        65,
-        GOOD,
-        FIRST,
-        LAST,
-        u64::MAX,
-    ];
-    let word = dice.one_of(&words);
+    let word = dice.one_of(&WORDS);
     let component = dice.below(32) as usize;
     let cpu = dice.below(64) as usize;
     let small = dice.below(5);
@@ -133,19 +174,7 @@ fn damage(record: &mut Record, dice: &mut Dice) {
         9 => record.board.component[component].svn = word as u32,
         10 => record.pending[component] ^= true,
         11 => record.version[component] = word as u32,
-        12 => {
-            record.state = match dice.below(9) {
-                0 => State::Idle,
-                1 => State::Preparing(small),
-                2 => State::HalfPrepared(small),
-                3 => State::Ready(small),
-                4 => State::Gathering(small),
-                5 => State::Together(small),
-                6 => State::Alone(small),
-                7 => State::HalfActivated(word),
-                _ => State::Dead,
-            }
-        }
+        12 => record.state = any_state(dice, small, word),
         13 => record.on ^= 1 << dice.below(64),
         14 => record.held ^= 1 << dice.below(5),
         15 => record.entry[cpu] = word,

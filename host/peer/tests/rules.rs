@@ -237,6 +237,37 @@ fn prime_reports() {
     }
 }
 
+/// The answer to an activate report in a state, and the state after it.
+fn after_activation(state: State, held: u64, code: u64) -> (Result<Answer, Refusal>, State) {
+    let id = state.component().unwrap();
+    match (code, state) {
+        (0, _) => (Ok(released(held, 0, 0)), State::Idle),
+        (1, State::Alone(_)) => (Ok(released(held, 0, 1)), State::HalfActivated(id)),
+        (12, State::Together(RESET)) => (Ok(resumed(held)), State::Idle),
+        (2, _) => (Ok(released(held, status(2), 0)), State::Ready(id)),
+        (5, _) => (Ok(released(held, status(5), 0)), State::Dead),
+        (3 | 4 | 6 | 9 | 11, _) => (Ok(released(held, status(code), 0)), State::Idle),
+        _ => (Err(Refusal::CodeNotAllowed), state),
+    }
+}
+
+fn check_activate_report(state: State, code: u64) {
+    let id = state.component().unwrap();
+    let mut bench = Bench::in_state(state);
+    bench.record.informed = true;
+    let expected = after_activation(state, bench.record.held, code);
+    let answer = bench.step(&activated(id, code));
+    assert_eq!((answer, bench.record.state), expected, "{code}");
+    let done = answer.is_ok() && (code == 0 || code == 12);
+    assert_eq!(bench.record.pending[id as usize], !done);
+    assert_eq!(bench.record.version[id as usize], if done { 0 } else { 5 });
+    assert_eq!(bench.record.informed, !done);
+    if code == 12 && answer.is_ok() {
+        assert_eq!(bench.entries[..4], [GOOD, GOOD + 4, GOOD + 8, 9]);
+        assert_eq!(bench.contexts[..4], [100, 101, 102, 9]);
+    }
+}
+
 #[test]
 fn activate_reports() {
     for state in [
@@ -245,38 +276,7 @@ fn activate_reports() {
         State::Together(OPTIONAL),
         State::Alone(OPTIONAL),
     ] {
-        let id = state.component().unwrap();
-        for code in 0..70 {
-            let mut bench = Bench::in_state(state);
-            bench.record.informed = true;
-            let held = bench.record.held;
-            let answer = bench.step(&activated(id, code));
-            let refused = (Err(Refusal::CodeNotAllowed), state);
-            let (expected, next) = match (code, state) {
-                (0, _) => (Ok(released(held, 0, 0)), State::Idle),
-                (1, State::Alone(_)) => (Ok(released(held, 0, 1)), State::HalfActivated(id)),
-                (12, State::Together(RESET)) => (
-                    Ok(Answer {
-                        caller: Caller::Nothing,
-                        release: Release::Resumed(held),
-                    }),
-                    State::Idle,
-                ),
-                (2, _) => (Ok(released(held, status(2), 0)), State::Ready(id)),
-                (5, _) => (Ok(released(held, status(5), 0)), State::Dead),
-                (3 | 4 | 6 | 9 | 11, _) => (Ok(released(held, status(code), 0)), State::Idle),
-                _ => refused,
-            };
-            assert_eq!((answer, bench.record.state), (expected, next), "{code}");
-            let done = answer.is_ok() && (code == 0 || code == 12);
-            assert_eq!(bench.record.pending[id as usize], !done);
-            assert_eq!(bench.record.version[id as usize], if done { 0 } else { 5 });
-            assert_eq!(bench.record.informed, !done);
-            if code == 12 && answer.is_ok() {
-                assert_eq!(bench.entries[..4], [GOOD, GOOD + 4, GOOD + 8, 9]);
-                assert_eq!(bench.contexts[..4], [100, 101, 102, 9]);
-            }
-        }
+        (0..70).for_each(|code| check_activate_report(state, code));
     }
 }
 

@@ -110,6 +110,13 @@ pub fn released(cpus: u64, x0: u64, x1: u64) -> Answer {
     }
 }
 
+pub fn resumed(cpus: u64) -> Answer {
+    Answer {
+        caller: Caller::Nothing,
+        release: Release::Resumed(cpus),
+    }
+}
+
 /// A record with its tables and the log of what it accepted.
 #[derive(Clone)]
 pub struct Bench {

@@ -1,8 +1,8 @@
 //! Packed board descriptions, good and bad.
 
 use crate::convert::flat_fresh;
+use crate::described::{board, board_of, described};
 use crate::dice::Dice;
-use crate::generate::{board, board_of, described};
 use lfa::flat;
 use peer::*;
 use std::collections::BTreeMap;

@@ -2,10 +2,9 @@
 //! questions at many places; and the writer on random answers.
 
 use crate::convert::*;
+use crate::described::{board, described};
 use crate::dice::Dice;
-use crate::generate::{
-    board, described, entry, id, junk_event, noise, ACTIVATE_CODES, FUNCTIONS, PRIME_CODES,
-};
+use crate::generate::{entry, id, junk_event, noise, ACTIVATE_CODES, FUNCTIONS, PRIME_CODES};
 use crate::pair::{ask, ask_prepared, ask_starts, flat_form, log, question};
 use crate::tally::Tally;
 use crate::walks::Walk;

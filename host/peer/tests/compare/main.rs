@@ -5,8 +5,10 @@
 //! Each test prints its seed, which cargo shows where it fails.
 
 mod boards;
+mod clauses;
 mod convert;
 mod damage;
+mod described;
 mod dice;
 mod generate;
 mod logs;

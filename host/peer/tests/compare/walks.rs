@@ -1,8 +1,9 @@
 //! Long walks over all states, each event on both sides.
 
 use crate::convert::*;
+use crate::described::{self, described};
 use crate::dice::{from_env, Dice};
-use crate::generate::{self, described, junk_event, Mood};
+use crate::generate::{self, junk_event, Mood};
 use crate::pair::{ask_prepared, ask_starts, log, question, refused_step, Pair, Tables};
 use crate::tally::Tally;
 use lfa::flat;
@@ -20,14 +21,14 @@ pub struct Walk {
 impl Walk {
     /// A walk on a board of any size.
     pub fn new(dice: &mut Dice) -> Self {
-        let board = generate::board(dice);
+        let board = described::board(dice);
         Self::on(dice, board)
     }
 
     /// A walk on a board of the size that comes after so many walks, so that
     /// each size has its turn.
     fn in_turn(dice: &mut Dice, walks: u64) -> Self {
-        let board = generate::board_of(dice, 1 + walks / 2 % 32, 1 + walks % 64);
+        let board = described::board_of(dice, 1 + walks / 2 % 32, 1 + walks % 64);
         Self::on(dice, board)
     }
 

@@ -16,7 +16,7 @@ returns : tie.Need-returns
 returns c = yes _ (by (c .before .before .before .is-gathering .ensures) (c .before .before .if1 .taken)) (rw (c .before .minus .ensures) at (c .freed .ensures))
 
 returns-2 : tie.Need-returns-2
-returns-2 c = search needs
+returns-2 c = rw (by (c .before .is-gathering .ensures) (c .if1 .left))
 
 pub cancelled-spec : {M : Type 1} → statement M
 cancelled-spec =

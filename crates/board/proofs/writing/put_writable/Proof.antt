@@ -1,4 +1,5 @@
 use mathlib.Core.Path.{refl}
+use Rattle.bitfield.proofs.Laws.{put-none}
 use Rattle.board.proofs.Laws.{no-room, all-written}
 use borrow.Author.Needs.{needs}
 use Rattle.board.proofs.writing.put_writable.Statement.{statement}
@@ -11,7 +12,7 @@ add-n : tie.Need-add-n
 add-n c = search needs
 
 returns : tie.Need-returns
-returns c = let a = c .before .before .args in (no-room (a .buf .now) (a .b) (c .if1 .taken), (refl, (refl, tt)))
+returns c = let a = c .before .before .args in (no-room (a .buf .now) (a .b) (c .if1 .taken), (put-none (a .buf .now), (refl, tt)))
 
 put-head-requires : tie.Need-put-head-requires
 put-head-requires c κs = search needs

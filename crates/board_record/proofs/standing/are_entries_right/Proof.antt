@@ -21,20 +21,20 @@ loop-holds c = (search needs, all-none _)
 has-requires : tie.Need-has-requires Inv-loop μ-loop
 has-requires c κs = search needs
 
-mul-is-entry-right : tie.Need-mul-is-entry-right Inv-loop μ-loop
-mul-is-entry-right c = search needs
+mul-is-place-right : tie.Need-mul-is-place-right Inv-loop μ-loop
+mul-is-place-right c = search needs
 
-element-copy-out-is-entry-right : tie.Need-element-copy-out-is-entry-right Inv-loop μ-loop
-element-copy-out-is-entry-right c = search needs
+element-copy-out-is-place-right : tie.Need-element-copy-out-is-place-right Inv-loop μ-loop
+element-copy-out-is-place-right c = search needs
 
-mul-is-entry-right-2 : tie.Need-mul-is-entry-right-2 Inv-loop μ-loop
-mul-is-entry-right-2 c = search needs
+mul-is-place-right-2 : tie.Need-mul-is-place-right-2 Inv-loop μ-loop
+mul-is-place-right-2 c = search needs
 
-element-copy-out-is-entry-right-2 : tie.Need-element-copy-out-is-entry-right-2 Inv-loop μ-loop
-element-copy-out-is-entry-right-2 c = search needs
+element-copy-out-is-place-right-2 : tie.Need-element-copy-out-is-place-right-2 Inv-loop μ-loop
+element-copy-out-is-place-right-2 c = search needs
 
-is-entry-right-requires : tie.Need-is-entry-right-requires Inv-loop μ-loop
-is-entry-right-requires c κs = search needs
+is-place-right-requires : tie.Need-is-place-right-requires Inv-loop μ-loop
+is-place-right-requires c κs = search needs
 
 add-i : tie.Need-add-i Inv-loop μ-loop
 add-i c = search needs
@@ -43,11 +43,11 @@ loop-less : tie.Need-loop-less Inv-loop μ-loop
 loop-less c = search needs
 
 loop-again : tie.Need-loop-again Inv-loop μ-loop
-loop-again c = (search needs, all-more _ _ (c .before .before .before .before .before .before .loop .inv .1) (rw (← c .before .before .before .before .has .ensures) (by (c .before .is-entry-right .ensures) (c .if1 .taken))))
+loop-again c = (search needs, all-more _ _ (c .before .before .before .before .before .before .loop .inv .1) (rw (← c .before .before .before .before .has .ensures) (by (c .before .is-place-right .ensures) (c .if1 .taken))))
 
 returns : tie.Need-returns Inv-loop μ-loop
 unfolding entriesStand
-returns c = all-fails _ _ _ (c .before .before .before .before .before .loop-test .taken) (rw (← c .before .before .before .before .has .ensures) (by (c .before .is-entry-right .ensures) (c .if1 .left)))
+returns c = all-fails _ _ _ (c .before .before .before .before .before .loop-test .taken) (rw (← c .before .before .before .before .has .ensures) (by (c .before .is-place-right .ensures) (c .if1 .left)))
 
 returns-2 : tie.Need-returns-2 Inv-loop μ-loop
 unfolding entriesStand
@@ -61,11 +61,11 @@ are-entries-right-spec =
     μ-loop
     loop-holds
     has-requires
-    mul-is-entry-right
-    element-copy-out-is-entry-right
-    mul-is-entry-right-2
-    element-copy-out-is-entry-right-2
-    is-entry-right-requires
+    mul-is-place-right
+    element-copy-out-is-place-right
+    mul-is-place-right-2
+    element-copy-out-is-place-right-2
+    is-place-right-requires
     add-i
     loop-less
     loop-again

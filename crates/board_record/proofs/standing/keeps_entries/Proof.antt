@@ -1,88 +1,22 @@
 use borrow.Author.Needs.{needs}
+use Rattle.basics.specs.Choice.{by}
 use Rattle.board_record.proofs.standing.keeps_entries.Statement.{statement}
 use Rattle.board_record.proofs.standing.keeps_entries.Tie as tie
 
-enum-told : tie.Need-enum-told
-enum-told c = search needs
+is-rendezvous-requires : tie.Need-is-rendezvous-requires
+is-rendezvous-requires c κs = search needs
 
-enum-told-2 : tie.Need-enum-told-2
-enum-told-2 c = search needs
+subject-of-requires : tie.Need-subject-of-requires
+subject-of-requires c κs = search needs
 
-enum-told-3 : tie.Need-enum-told-3
-enum-told-3 c = search needs
-
-enum-told-4 : tie.Need-enum-told-4
-enum-told-4 c = search needs
-
-enum-known-s : tie.Need-enum-known-s
-enum-known-s c = search needs
-
-may-reset-requires : tie.Need-may-reset-requires
-may-reset-requires c κs = search needs
-
-enum-known-s-2 : tie.Need-enum-known-s-2
-enum-known-s-2 c = search needs
-
-may-reset-requires-2 : tie.Need-may-reset-requires-2
-may-reset-requires-2 c κs = search needs
-
-enum-told-5 : tie.Need-enum-told-5
-enum-told-5 c = search needs
-
-enum-told-6 : tie.Need-enum-told-6
-enum-told-6 c = search needs
-
-enum-told-7 : tie.Need-enum-told-7
-enum-told-7 c = search needs
+may-reset-by-requires : tie.Need-may-reset-by-requires
+may-reset-by-requires c κs = search needs
 
 returns : tie.Need-returns
-returns c = search needs
+returns c = rw (by (c .before .before .before .is-rendezvous .ensures) (c .before .before .if1 .taken), ← c .before .subject-of .ensures) (c .may-reset-by .ensures)
 
 returns-2 : tie.Need-returns-2
-returns-2 c = search needs
-
-returns-3 : tie.Need-returns-3
-returns-3 c = search needs
-
-returns-4 : tie.Need-returns-4
-returns-4 c = search needs
-
-returns-5 : tie.Need-returns-5
-returns-5 c = rw (c .before .before .s .given .1) (c .may-reset .ensures)
-
-returns-6 : tie.Need-returns-6
-returns-6 c = rw (c .before .before .s2 .given .1) (c .may-reset2 .ensures)
-
-returns-7 : tie.Need-returns-7
-returns-7 c = search needs
-
-returns-8 : tie.Need-returns-8
-returns-8 c = search needs
-
-returns-9 : tie.Need-returns-9
-returns-9 c = search needs
+returns-2 c = rw (by (c .before .is-rendezvous .ensures) (c .if1 .left))
 
 pub keeps-entries-spec : {M : Type 1} → statement M
-keeps-entries-spec =
-    tie.close
-    (tie.spec
-    enum-told
-    enum-told-2
-    enum-told-3
-    enum-told-4
-    enum-known-s
-    may-reset-requires
-    enum-known-s-2
-    may-reset-requires-2
-    enum-told-5
-    enum-told-6
-    enum-told-7
-    returns
-    returns-2
-    returns-3
-    returns-4
-    returns-5
-    returns-6
-    returns-7
-    returns-8
-    returns-9)
+keeps-entries-spec = tie.close (tie.spec is-rendezvous-requires subject-of-requires may-reset-by-requires returns returns-2)

@@ -6,7 +6,7 @@ use borrow.Author.Needs.{needs}
 use Rattle.basics.specs.Places.{firsts, table, table-more, table-full}
 use mathlib.Core.Bool.{false}
 use Rattle.board.specs.Description.{mostComponents}
-use Rattle.flat.specs.Records.{flagIn}
+use Rattle.board.specs.Packed.{flagIn}
 use Rattle.flat.proofs.records.flags.Statement.{statement}
 use Rattle.flat.proofs.records.flags.Tie as tie
 

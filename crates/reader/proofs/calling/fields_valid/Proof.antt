@@ -1,4 +1,3 @@
-use Rattle.basics.specs.Choice.{by}
 use borrow.Author.Tests.{eq-eqb, ne-eqb, lt-ltb, le-ltb}
 use Rattle.reader.specs.Starts.{fieldsValid}
 use borrow.Author.Needs.{needs}
@@ -18,27 +17,14 @@ unfolding fieldsValid
 returns-3 c =
     rw (lt-ltb _ _ (c .before .before .before .before .if1 .left), eq-eqb _ _ (c .before .before .if2 .left), ne-eqb _ _ (c .if3 .taken))
 
-may-reset-requires : tie.Need-may-reset-requires
-may-reset-requires c κs = search needs
-
-good-entry-requires : tie.Need-good-entry-requires
-good-entry-requires c κs = search needs
+is-entry-right-requires : tie.Need-is-entry-right-requires
+is-entry-right-requires c κs = search needs
 
 returns-4 : tie.Need-returns-4
 unfolding fieldsValid
 returns-4 c =
-    let m = c .before .before in
-    let f = m .before in
-    rw (lt-ltb _ _ (f .before .before .before .before .if1 .left), eq-eqb _ _ (f .before .before .if2 .left), eq-eqb _ _ (f .if3 .left), by (m .may-reset .ensures) (c .before .if4 .taken)) (c .good-entry .ensures)
-
-returns-5 : tie.Need-returns-5
-unfolding fieldsValid
-returns-5 c =
-    let m = c .before in
-    let f = m .before in
-    rw (lt-ltb _ _ (f .before .before .before .before .if1 .left), eq-eqb _ _ (f .before .before .if2 .left), eq-eqb _ _ (f .if3 .left), by (m .may-reset .ensures) (c .if4 .left))
+    let f = c .before in
+    rw (lt-ltb _ _ (f .before .before .before .before .if1 .left), eq-eqb _ _ (f .before .before .if2 .left), eq-eqb _ _ (f .if3 .left)) (c .is-entry-right .ensures)
 
 pub fields-valid-spec : {M : Type 1} → statement M
-fields-valid-spec =
-    tie.close
-    (tie.spec returns returns-2 returns-3 may-reset-requires good-entry-requires returns-4 returns-5)
+fields-valid-spec = tie.close (tie.spec returns returns-2 returns-3 is-entry-right-requires returns-4)

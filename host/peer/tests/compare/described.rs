@@ -1,0 +1,88 @@
+//! Boards that both sides take.
+
+use crate::dice::Dice;
+use peer::*;
+
+/// A count up to the most: small, large or any.
+pub fn count(dice: &mut Dice, most: u64) -> u64 {
+    match dice.below(8) {
+        0 => 1,
+        1 | 2 => 2,
+        3 | 4 => 1 + dice.below(8),
+        5 => most,
+        _ => 1 + dice.below(most),
+    }
+}
+
+/// A range of entry addresses: narrow, wide, or of one address.
+fn range(dice: &mut Dice) -> (u64, u64) {
+    let (one, other) = (dice.word(), dice.word());
+    match dice.below(32) {
+        0 => (one, one),
+        1..=4 => (0, u64::MAX),
+        5..=7 => (one & !3, one & !3),
+        8..=11 => (u64::MAX - one % 64, u64::MAX),
+        12..=15 => (0, one % 64),
+        16..=19 => (one.min(other), one.max(other)),
+        _ => (0x1000, 0x1FFF),
+    }
+}
+
+/// UUIDs that differ: at random, or in one byte alone.
+fn set_uuids(dice: &mut Dice, components: &mut [Component]) {
+    let alike = dice.one_in(2);
+    let byte = dice.place(16);
+    let mut common = [0; 16];
+    dice.fill(&mut common);
+    for (place, component) in (0u8..).zip(components) {
+        component.uuid = common;
+        if !alike {
+            dice.fill(&mut component.uuid);
+        }
+        component.uuid[byte] = common[byte].wrapping_add(place);
+    }
+}
+
+fn svn(dice: &mut Dice) -> u32 {
+    match dice.below(8) {
+        0 => 0,
+        1 => u32::MAX,
+        2 => dice.word() as u32,
+        _ => 1 + dice.below(6) as u32,
+    }
+}
+
+/// A board of these counts that both sides take.
+pub fn board_of(dice: &mut Dice, components: u64, cpus: u64) -> Board {
+    let (first, last) = range(dice);
+    let mut board = Board {
+        components,
+        cpus,
+        first,
+        last,
+        component: [Component::default(); MAX_COMPONENTS],
+    };
+    let existing = &mut board.component[..components as usize];
+    set_uuids(dice, existing);
+    for component in existing {
+        component.capable = !dice.one_in(4);
+        component.may_reset = dice.one_in(3);
+        component.optional = !component.may_reset && dice.one_in(2);
+        component.svn = svn(dice);
+    }
+    board
+}
+
+/// A board of any size that both sides take.
+pub fn board(dice: &mut Dice) -> Board {
+    let (components, cpus) = (count(dice, 32), count(dice, 64));
+    board_of(dice, components, cpus)
+}
+
+/// The packed description of a board.
+pub fn described(board: &Board) -> Vec<u8> {
+    let mut bytes = vec![0; 690];
+    let length = board.write(&mut bytes).expect("a good board");
+    bytes.truncate(length);
+    bytes
+}
