@@ -49,7 +49,8 @@ holdingOf (Alone c) = One
 holdingOf (HalfActivated c) = Nobody
 holdingOf Dead = Nobody
 
--- a state's place in document 01's table of rules, which is also its number for a host; the places that rules ask for by name
+-- a state's place in document 01's table of rules, which is also its number for a host; first the places that rules ask
+-- for by name
 abbrev pub preparingPlace : ℕ
 preparingPlace = 1
 
