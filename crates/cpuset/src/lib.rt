@@ -3,7 +3,7 @@ ghost use mathlib.Core.Path.{_≡_};
 ghost use Rattle.cpuset.specs.Set.{noneOf, hasOf, onlyOf, withOf, withoutOf, unionOf, lessOf, sameOf, belowOf, withinOf, countOf};
 
 // How many numbers there is room for: a member is below it.
-const ROOM: u64 = 64;
+pub const ROOM: u64 = 64;
 
 // Number i is a member where bit i is set.
 #[repr(C)]

@@ -45,11 +45,14 @@ fn fields_valid(b: Board, call: Call, c: u64) -> bool
     board::is_entry_right(b, c, call.x3)
 }
 
-// No activation without rendezvous began, and every other powered CPU became held in that time.
+// No activation without rendezvous began, and every other powered CPU became held in that time: none is beyond the sets.
 fn all_gathered(s: Story, cpu: u64) -> bool
     ensures { λ r. ⌜ r ≡ (not (s .alone) && othersGathered s cpu) ⌝ }
 {
     if s.alone {
+        return false;
+    }
+    if s.beyond {
         return false;
     }
     let gathered = s.gathered;

@@ -61,6 +61,27 @@ fn no_rendezvous_after_one_without() {
 }
 
 #[test]
+fn nothing_starts_after_a_cpu_that_no_set_has() {
+    // A log that no agent writes: a CPU_ON of such a number that returned 0.
+    let bench = Bench::in_state(State::Ready(RESET)).all(&[activate(0, RESET), activate(1, RESET)]);
+    let described = described(&bench.record.board);
+    let Event::Call(last) = activate(2, RESET) else { panic!() };
+    let starts = |target: u64, given: u64| {
+        let on = call(2, Function::CpuOn, [target, GOOD, 0, 0]);
+        let mut bytes = [0; 51];
+        logged(&on, &returned(given)).write(&mut bytes).unwrap();
+        let log = [bytes.as_slice(), &bench.log].concat();
+        starts_at(&described, &log, log.len() / 51, &last).unwrap()
+    };
+    for target in [64, 65, 256, 1 << 32, u64::MAX] {
+        assert_eq!(starts(target, 0), None);
+        assert_eq!(starts(target, status(2)), Some(RESET));
+    }
+    assert_eq!(starts(1, 0), Some(RESET));
+    assert_eq!(starts(63, 0), None);
+}
+
+#[test]
 fn a_cancel_releases_only_those_held_for_activate() {
     // A log that no agent writes: a CANCEL that returned 0 while a CPU is
     // held for PRIME.

@@ -7,6 +7,10 @@ returns : tie.Need-returns
 unfolding othersGathered
 returns c = rw (c .if1 .taken)
 
+returns-2 : tie.Need-returns-2
+unfolding othersGathered
+returns-2 c = rw (c .before .if1 .left, c .if2 .taken)
+
 without-requires : tie.Need-without-requires
 without-requires c κs = search needs
 
@@ -16,12 +20,14 @@ every-held-requires c κs = search needs
 within-requires : tie.Need-within-requires
 within-requires c κs = search needs
 
-returns-2 : tie.Need-returns-2
+returns-3 : tie.Need-returns-3
 unfolding othersGathered
-returns-2 c =
+returns-3 c =
     let w = c .before .before in
-    rw (w .before .before .if1 .left, c .within .ensures, w .without .ensures, c .before .every-held .ensures)
+    let b = w .before .before in
+    rw (b .before .if1 .left, b .if2 .left, c .within .ensures, w .without .ensures, c .before .every-held .ensures)
 
 pub all-gathered-spec : {M : Type 1} → statement M
 all-gathered-spec =
-    tie.close (tie.spec returns without-requires every-held-requires within-requires returns-2)
+    tie.close
+    (tie.spec returns returns-2 without-requires every-held-requires within-requires returns-3)
