@@ -300,7 +300,8 @@ struct lfa_answer lfa_step(struct lfa_record *rec, struct lfa_event e, uint64_t 
 /*
  * Writes the 51 bytes of an accepted event's log record at the start of buf; bytes not written stay. a is the answer that
  * lfa_step gave to e. A refused answer, an event of unknown kind and a call without caller's part leave no record: 32, and
- * nothing is written. Then 31 where a number has no room in its field, and 34 where buf is shorter than 51 bytes.
+ * nothing is written. Then 31 where a number has no room in its field, or where the release of an activate report of code 12
+ * gives an X0 that is not 0; and 34 where buf is shorter than 51 bytes.
  */
 struct lfa_written lfa_log(uint8_t *buf, size_t buf_length, struct lfa_event e, struct lfa_answer a);
 

@@ -96,11 +96,14 @@ impl Function {
     }
 }
 
+/// The code of an activation done by reset.
+pub(crate) const BY_RESET: u64 = 12;
+
 /// The codes a prime report may carry, as a bit set.
 pub(crate) const PRIME_CODES: u64 = codes(&[0, 1, 3, 4, 6, 11]);
 
 /// The codes some activate report may carry, as a bit set.
-pub(crate) const ACTIVATE_CODES: u64 = codes(&[0, 1, 2, 3, 4, 5, 6, 9, 11, 12]);
+pub(crate) const ACTIVATE_CODES: u64 = codes(&[0, 1, 2, 3, 4, 5, 6, 9, 11, BY_RESET]);
 
 /// Whether a bit set of codes has this one.
 #[inline]

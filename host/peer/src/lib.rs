@@ -30,8 +30,8 @@
 //! - SVNs and UUIDs of components within the count may be 0.
 //!
 //! Log records:
-//! - Word 6 is used by outcome 1 and 6, whatever the code, and is not compared
-//!   with it.
+//! - Word 6 of an activate report of code 12 is an unused field, since no X0 is
+//!   given. With outcome 1 and of all other reports it may be anything.
 //! - The CPU of a report or an image is an unused field. So are the six
 //!   reserved bits when reading.
 //! - A call's outcome is not compared with its function number.
@@ -52,11 +52,11 @@
 //!   component that the board does not have never starts. One that it has need
 //!   not be capable, since a log is taken at its word.
 //!
-//! Of logs that no agent writes, four points follow the project's own choices
+//! Of logs that no agent writes, three points follow the project's own choices
 //! (docs/DECISIONS.md), so that on them the comparison with the library is no
-//! independent evidence: word 6 goes by the outcome alone; so does what becomes
-//! of a caller; CPU_ON powers any of 64 CPUs; and skip is bit 0 of X2 of an
-//! outcome 4, whatever the function.
+//! independent evidence: what becomes of a caller goes by the outcome alone;
+//! CPU_ON powers any of 64 CPUs; and skip is bit 0 of X2 of an outcome 4,
+//! whatever the function.
 
 mod answer;
 mod board;

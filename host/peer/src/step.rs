@@ -1,7 +1,9 @@
 //! The rules: what each event answers and changes.
 
 use crate::answer::{status, Answer, Caller, Release};
-use crate::event::{has_code, Call, Event, Function, Image, Report, ACTIVATE_CODES, PRIME_CODES};
+use crate::event::{
+    has_code, Call, Event, Function, Image, Report, ACTIVATE_CODES, BY_RESET, PRIME_CODES,
+};
 use crate::record::{Record, State};
 use crate::Refusal;
 
@@ -249,18 +251,18 @@ impl Record {
         }
         let allowed = match code {
             1 => !together,
-            12 => self.keeps_resumes(),
+            BY_RESET => self.keeps_resumes(),
             _ => has_code(ACTIVATE_CODES, code),
         };
         if !allowed {
             return Err(Refusal::CodeNotAllowed);
         }
-        if let 0 | 12 = code {
+        if let 0 | BY_RESET = code {
             self.pending[id as usize] = false;
             self.version[id as usize] = 0;
             self.informed = false;
         }
-        if code == 12 {
+        if code == BY_RESET {
             for cpu in members(self.held) {
                 entries[cpu] = self.entry[cpu];
                 contexts[cpu] = self.context[cpu];

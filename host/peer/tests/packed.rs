@@ -121,12 +121,13 @@ fn good_call(outcome: u64) -> LogRecord {
 }
 
 fn good_report(kind: u64, code: u64) -> LogRecord {
+    let given = if code == 12 { 0 } else { u64::MAX };
     LogRecord {
         kind,
         cpu: 0,
         code,
         outcome: RELEASED,
-        words: [0, 31, 0, 0, 0, u64::MAX],
+        words: [0, 31, 0, 0, 0, given],
     }
 }
 
@@ -186,7 +187,7 @@ fn used_fields_fit(record: &LogRecord) -> bool {
     }
 }
 
-/// The fields that the kind and the outcome do not use.
+/// The fields that the kind, the outcome and the code do not use.
 fn unused_fields(record: &LogRecord) -> Vec<u64> {
     let (cpu, code) = (record.cpu, record.code);
     let [word_1, _, word_3, word_4, word_5, word_6] = record.words;
@@ -194,7 +195,7 @@ fn unused_fields(record: &LogRecord) -> Vec<u64> {
         CALL if record.outcome == 1 => vec![code],
         CALL => vec![code, word_6],
         IMAGE => vec![cpu, code, word_1, word_4, word_5, word_6],
-        // Word 6 goes by the outcome alone, so code 12 may have any.
+        ACTIVATE if code == 12 => vec![cpu, word_1, word_3, word_4, word_5, word_6],
         _ => vec![cpu, word_1, word_3, word_4, word_5],
     }
 }

@@ -11,6 +11,7 @@ use crate::walks::Walk;
 use lfa::flat;
 use peer::*;
 use std::collections::BTreeMap;
+use std::ops::Range;
 
 /// A walk whose log has at most so many records.
 fn walk(dice: &mut Dice, records: usize) -> Walk {
@@ -243,7 +244,10 @@ fn any_record(dice: &mut Dice, record: &Record) -> LogRecord {
         0..=3 => (PRIME, dice.one_of(&PRIME_CODES), RELEASED, dice.word()),
         4 => (PRIME, 0, RELEASED, 0),
         5 => (ACTIVATE, dice.one_of(&[1, 2]), RELEASED, 0),
-        6 => (ACTIVATE, dice.one_of(&ACTIVATE_CODES), RELEASED, 9),
+        6 => match dice.one_of(&ACTIVATE_CODES) {
+            12 => (ACTIVATE, 12, RELEASED, 0),
+            code => (ACTIVATE, code, RELEASED, 9),
+        },
         7 => (IMAGE, 0, NOTED, 0),
         _ => return any_logged_call(dice, record),
     };
@@ -292,6 +296,86 @@ fn logs_that_no_agent_writes() {
     }
     println!("started in logs that no agent writes: {started}");
     assert!(started > 500, "{dice}: {started}");
+}
+
+/// The bits of a record, and those of its word 6.
+const BITS: Range<usize> = 0..8 * RECORD_BYTES;
+const WORD_6: Range<usize> = BITS.end - 64..BITS.end;
+
+/// An activate report of code 12 with a bit of word 6 set and another bit
+/// flipped, unless it is the same one.
+fn reset_with(given: usize, other: usize) -> [u8; RECORD_BYTES] {
+    let mut bytes = [0; RECORD_BYTES];
+    bytes[..3].copy_from_slice(&[0x60, 0x31, 0x80]);
+    bytes[other / 8] ^= 1 << (other % 8);
+    bytes[given / 8] |= 1 << (given % 8);
+    bytes
+}
+
+/// No X0 is given by reset: every bit of word 6, alone and beside every other
+/// bit of the record.
+#[test]
+fn resets_read_with_an_x0() {
+    let mut dice = Dice::new(17);
+    let walk = full_walk(&mut dice, 6);
+    let mut refusals = BTreeMap::<u64, u64>::new();
+    for (given, other) in WORD_6.flat_map(|given| BITS.map(move |other| (given, other))) {
+        let mut log = walk.log.clone();
+        log.extend_from_slice(&reset_with(given, other));
+        dice.next_step();
+        let place = dice.place(8);
+        let call = question(&mut dice, &walk.pair.peer);
+        let _ = ask_starts(&dice, &walk.board, &log, place, &call);
+        let refusal = match ask_prepared(&dice, &log, place) {
+            Ok(_) => 0,
+            Err(Flaw { refusal, place }) => {
+                assert_eq!(place, 6, "{dice}");
+                refusal.number()
+            }
+        };
+        *refusals.entry(refusal).or_default() += 1;
+    }
+    // One of the other bits makes the code 4, which gives an X0; eleven make
+    // the kind, the code or the outcome unknown.
+    let expected = [(0, 64), (31, 64 * 396), (32, 64 * 11)];
+    assert_eq!(refusals, BTreeMap::from(expected), "{dice}");
+}
+
+/// The same in writing: reports about code 12 with and without an X0.
+#[test]
+fn resets_logged_with_an_x0() {
+    let mut dice = Dice::new(18);
+    let mut counts = BTreeMap::<(u64, bool, bool), u64>::new();
+    for _ in 0..20_000 {
+        dice.next_step();
+        let event = Event::Activate(Report {
+            component: dice.one_of(&[0, 31, 31, 32]),
+            code: dice.one_of(&[11, 12, 12, 13]),
+        });
+        let x0 = 1 << dice.below(64);
+        let x0 = dice.one_of(&[0, x0, status(12)]);
+        let returned = Release::Returned { cpus: 1, x0, x1: 0 };
+        let release = dice.one_of(&[Release::Nobody, returned, Release::Resumed(1)]);
+        let answer = Answer {
+            caller: Caller::Nothing,
+            release,
+        };
+        let record = logged(&event, &answer);
+        let form = flat_form(&mut dice, &event);
+        let written = log(&mut dice, form, flat_answer(&Ok(answer)), Some(record)).is_some();
+        let kind = (record.code, record.words[5] != 0, written);
+        *counts.entry(kind).or_default() += 1;
+    }
+    println!("codes, whether an X0 was given, and whether it was written: {counts:?}");
+    for (kind, comes) in [
+        ((11, true, true), true),
+        ((12, false, true), true),
+        ((12, true, false), true),
+        ((12, true, true), false),
+        ((13, false, true), false),
+    ] {
+        assert_eq!(counts.contains_key(&kind), comes, "{dice}: {counts:?}");
+    }
 }
 
 /// The number of a part: mostly a known one, which are below the end.

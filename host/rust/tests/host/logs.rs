@@ -1,11 +1,11 @@
 //! Writing log records, and what a damaged log is refused with.
 
 use lfa::{
-    flat, function, prepared_at, starts_at, write_log, Answer, Call, Caller, Event, Flaw, Refusal,
-    Registers, Release, Report, RECORD_BYTES,
+    code, flat, function, prepared_at, starts_at, write_log, Answer, Call, Caller, Event, Flaw,
+    Freed, Refusal, Registers, Release, Report, RECORD_BYTES,
 };
 
-use crate::setup::{board, call, image, prime_report, Host, PLAIN};
+use crate::setup::{activate_report, board, call, image, prime_report, Host, PLAIN, RESETS};
 
 const NOTHING: Answer = Answer {
     caller: Caller::Nothing,
@@ -141,6 +141,26 @@ fn an_unused_field_is_31_with_its_place() {
     refused(&log, 1, 31, 2);
     log[RECORD_BYTES + 2] |= 1;
     refused(&log, 1, 31, 1);
+}
+
+#[test]
+fn an_x0_of_a_reset_is_31() {
+    let mut host = Host::new().together(RESETS);
+    let reset = activate_report(RESETS, code::BY_RESET);
+    host.take(reset);
+    let last = host.log.len() / RECORD_BYTES - 1;
+    *host.log.last_mut().expect("a log") = 1;
+    refused(&host.log, 0, 31, last);
+    let released = |x0| Answer {
+        caller: Caller::Nothing,
+        release: Release::Returned(Freed {
+            x0,
+            ..Freed::default()
+        }),
+    };
+    not_written(51, reset, released(1), Refusal::FIELD);
+    let written = write_log(&mut [0; 51], &reset, &released(0));
+    assert_eq!(written, Ok(RECORD_BYTES));
 }
 
 #[test]
