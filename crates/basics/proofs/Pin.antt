@@ -9,6 +9,7 @@ use base.Logic.{SProp, ent, sep, via, fst∗, snd∗}
 use contract.Lifetimes.{Lfts}
 use contract.Monad.{fact, factI, fact-use, fact-mono}
 use borrow.Fn.Kinds.{Out, PK, RK, Dens, resT, endedOf}
+use denote.Ref.{RefT}
 use denote.Triple.Entry.{Args, Res}
 use denote.Triple.Clauses.{Ended, Clauses, Lasts, atExit}
 
@@ -17,11 +18,16 @@ OneOutcome n ps r P =
     (κs : Lfts n) (a : Dens κs ps) (z z′ : resT r κs .Denot) (ws ws′ : Lasts (endedOf n ps r) κs a)
     → P κs a z (atExit (endedOf n ps r) κs a ws) → P κs a z′ (atExit (endedOf n ps r) κs a ws′) → (z ≡ z′) × (ws ≡ ws′)
 
--- the same of what stands in a result that is a part of a lent buffer: the promise has no word on which part it is
-abbrev pub OnePart : (n : ℕ) (ps : List (PK n)) (r : RK n) → ((κs : Lfts n) → resT r κs .Denot → List ℕ) → Out n ps r → Type 0
-OnePart n ps r contents P =
+-- two parts of a lent buffer are one: they lie at one place of memory and hold the same. A reference value has a third part, the
+-- ghost name under which a proof tracks what it holds. A name is new with each part, so no promise can say it, and no program has it
+abbrev pub OnePlace : {X : Type 0} → RefT X → RefT X → Type 0
+OnePlace p q = (p .ptr ≡ q .ptr) × (p .now ≡ q .now)
+
+-- the same of a result that is a part of a lent buffer
+abbrev pub OnePart : (n : ℕ) (ps : List (PK n)) (r : RK n) → ((κs : Lfts n) → resT r κs .Denot → RefT (List ℕ)) → Out n ps r → Type 0
+OnePart n ps r part P =
     (κs : Lfts n) (a : Dens κs ps) (z z′ : resT r κs .Denot) (ws ws′ : Lasts (endedOf n ps r) κs a)
-    → P κs a z (atExit (endedOf n ps r) κs a ws) → P κs a z′ (atExit (endedOf n ps r) κs a ws′) → contents κs z ≡ contents κs z′
+    → P κs a z (atExit (endedOf n ps r) κs a ws) → P κs a z′ (atExit (endedOf n ps r) κs a ws′) → OnePlace (part κs z) (part κs z′) × (ws ≡ ws′)
 
 -- the same of a function that is proved by a walk, whose contract has no plain reading: whatever entails the generated
 -- `ensures` of two outcomes entails that they are equal
