@@ -21,10 +21,10 @@ OneBy n ps r Same P =
 abbrev pub OneOutcome : (n : ℕ) (ps : List (PK n)) (r : RK n) → Out n ps r → Type 0
 OneOutcome n ps r P = OneBy n ps r (λ κs z z′. z ≡ z′) P
 
--- two parts of a lent buffer are one: they lie at one place of memory and hold the same. A reference value has a third part, the
--- ghost name under which a proof tracks what it holds. It is new with each part, so no promise can say it, and no program has it
+-- two parts of a lent buffer are one: they hold the same and lie at one place of memory. All else that a reference value has is the
+-- ghost name under which a proof tracks what it holds: it is new with each part, so no promise can say it, and no program has it
 abbrev pub OnePart : {X : Type 0} → RefT X → RefT X → Type 0
-OnePart p q = (p .ptr ≡ q .ptr) × (p .now ≡ q .now)
+OnePart p q = (p .now ≡ q .now) × (p .ptr ≡ q .ptr)
 
 -- the same of a function that is proved by a walk, whose contract has no plain reading: whatever entails the generated
 -- `ensures` of two outcomes entails that they are one
@@ -52,3 +52,7 @@ same p q = p ∙ sym q
 -- the same of a function that changes nothing it is lent
 pub just {ℓ} : {A B : Type ℓ} {x y d : A} {w : B} → x ≡ d → y ≡ d → (x ≡ y) × (w ≡ w)
 just p q = (same p q, refl)
+
+-- the same of two things that the promise names
+pub both {ℓ} : {A B : Type ℓ} {x y d : A} {u v e : B} → (x ≡ d) × (u ≡ e) → (y ≡ d) × (v ≡ e) → (x ≡ y) × (u ≡ v)
+both p q = (same (p .0) (q .0), same (p .1) (q .1))

@@ -1,6 +1,6 @@
 -- Each public function's promise leaves one outcome. Assumes nothing.
 use mathlib.Core.Path.{refl}
-use Rattle.basics.proofs.Pin.{OneBy, OneOutcome, OnePart, same, just}
+use Rattle.basics.proofs.Pin.{OneBy, OneOutcome, OnePart, same, just, both}
 use Rattle.board.proofs.number.Kinds as number-kinds
 use Rattle.board.proofs.number.Reads as number-reads
 use Rattle.board.proofs.digit.Kinds as digit-kinds
@@ -56,4 +56,4 @@ put-board-pinned κs a z z′ ws ws′ p q = (same (p .0) (q .0), λ i. (same (p
 
 -- the part is pinned; the buffer is spent, so nothing can be said of the bytes past it (docs/DECISIONS.md, "Pins")
 pub write-board-pinned : OneBy 1 write-board-kinds.ps write-board-kinds.r (λ κs. OnePart) write-board-reads.Post
-write-board-pinned κs a z z′ ws ws′ p q = ((same (p .1) (q .1), same (p .0) (q .0)), refl)
+write-board-pinned κs a z z′ ws ws′ p q = (both p q, refl)
