@@ -13,6 +13,7 @@ use denote.Ref.{RefT}
 use denote.Triple.Entry.{Args, Res}
 use denote.Triple.Clauses.{Ended, Clauses, Lasts, atExit}
 
+-- `Same` says when two results are one
 abbrev pub OneBy : (n : ℕ) (ps : List (PK n)) (r : RK n) → ((κs : Lfts n) → resT r κs .Denot → resT r κs .Denot → Type 0) → Out n ps r → Type 0
 OneBy n ps r Same P =
     (κs : Lfts n) (a : Dens κs ps) (z z′ : resT r κs .Denot) (ws ws′ : Lasts (endedOf n ps r) κs a)
@@ -21,8 +22,8 @@ OneBy n ps r Same P =
 abbrev pub OneOutcome : (n : ℕ) (ps : List (PK n)) (r : RK n) → Out n ps r → Type 0
 OneOutcome n ps r P = OneBy n ps r (λ κs z z′. z ≡ z′) P
 
--- two parts of a lent buffer are one: they hold the same and lie at one place of memory. All else that a reference value has is the
--- ghost name under which a proof tracks what it holds: it is new with each part, so no promise can say it, and no program has it
+-- two parts of a lent buffer: they hold the same and lie at one place of memory. All else that a reference value has is the ghost
+-- name under which a proof tracks what it holds: it is new with each part, so no promise can say it, and no program has it
 abbrev pub OnePart : {X : Type 0} → RefT X → RefT X → Type 0
 OnePart p q = (p .now ≡ q .now) × (p .ptr ≡ q .ptr)
 
