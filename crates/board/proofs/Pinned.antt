@@ -1,6 +1,6 @@
 -- Each public function's promise leaves one outcome. Assumes nothing.
-use denote.Ref.{now}
-use Rattle.basics.proofs.Pin.{OneOutcome, OnePart, same, just}
+use mathlib.Core.Path.{refl}
+use Rattle.basics.proofs.Pin.{OneBy, OneOutcome, OnePart, same, just, both}
 use Rattle.board.proofs.number.Kinds as number-kinds
 use Rattle.board.proofs.number.Reads as number-reads
 use Rattle.board.proofs.digit.Kinds as digit-kinds
@@ -54,6 +54,6 @@ read-board-pinned κs a z z′ ws ws′ p q = just (p .0) (q .0)
 pub put-board-pinned : OneOutcome 1 put-board-kinds.ps put-board-kinds.r put-board-reads.Post
 put-board-pinned κs a z z′ ws ws′ p q = (same (p .0) (q .0), λ i. (same (p .1 .0) (q .1 .0) i, (tt, tt)))
 
--- what the part holds is pinned; the buffer is spent, so nothing can be said of the rest (docs/DECISIONS.md)
-pub write-board-pinned : OnePart 1 write-board-kinds.ps write-board-kinds.r (λ κs z. now z) write-board-reads.Post
-write-board-pinned κs a z z′ ws ws′ p q = same p q
+-- the part is pinned; the buffer is spent, so nothing can be said of the bytes past it (docs/DECISIONS.md, "Pins")
+pub write-board-pinned : OneBy 1 write-board-kinds.ps write-board-kinds.r (λ κs. OnePart) write-board-reads.Post
+write-board-pinned κs a z z′ ws ws′ p q = (both p q, refl)

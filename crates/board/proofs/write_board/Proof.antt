@@ -1,4 +1,4 @@
-use mathlib.Core.Path.{sym, _∙_}
+use mathlib.Core.Path.{refl, sym, _∙_}
 use Prim.Native.Nat.{_≤_}
 use native.Mathlib.Omega.{arith}
 use lib.ListN.{length}
@@ -28,7 +28,7 @@ returns : tie.Need-returns
 returns c =
     let p = c .before .before .before .before in
     let st = p .before .before .before in
-    rw (p .put-board .ensures .1 .0) (part-written (st .args .buf .now) (st .args .b) _ (c .before .length-in .ensures ∙ p .put-board .ensures .1 .1 .0) (fits (c .before)))
+    (rw (p .put-board .ensures .1 .0) (part-written (st .args .buf .now) (st .args .b) _ (c .before .length-in .ensures ∙ p .put-board .ensures .1 .1 .0) (fits (c .before))), refl)
 
 pub write-board-spec : {M : Type 1} → statement M
 write-board-spec =
