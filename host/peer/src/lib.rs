@@ -47,16 +47,17 @@
 //! - Only logs that no agent writes are touched by the rest. What becomes of a
 //!   caller goes by the outcome alone: held and activation started hold it for
 //!   ACTIVATE, prime started for PRIME, gone powers it off. A CPU_ON that
-//!   returned 0 powers its target, one of 64, whatever the board. An activation
-//!   without rendezvous is an outcome 4 with bit 0 of X2 set. A prepared
-//!   component that the board does not have never starts. One that it has need
-//!   not be capable, since a log is taken at its word.
+//!   returned 0 powers its target, any number, whatever the board; no record
+//!   can say that one of 64 or more became held, so nothing starts after it.
+//!   An activation without rendezvous is an outcome 4 with bit 0 of X2 set. A
+//!   prepared component that the board does not have never starts. One that it
+//!   has need not be capable, since a log is taken at its word.
 //!
 //! Of logs that no agent writes, three points follow the project's own choices
 //! (docs/DECISIONS.md), so that on them the comparison with the library is no
 //! independent evidence: what becomes of a caller goes by the outcome alone;
-//! CPU_ON powers any of 64 CPUs; and skip is bit 0 of X2 of an outcome 4,
-//! whatever the function.
+//! CPU_ON powers any CPU, also one that the board has not; and skip is bit 0 of
+//! X2 of an outcome 4, whatever the function.
 
 mod answer;
 mod board;

@@ -271,6 +271,7 @@ fn any_record(dice: &mut Dice, record: &Record) -> LogRecord {
 fn logs_that_no_agent_writes() {
     let mut dice = Dice::new(15);
     let mut started = 0;
+    let mut stopped = 0;
     for _ in 0..2000 {
         let mut board = board(&mut dice);
         if !dice.one_in(8) {
@@ -292,10 +293,15 @@ fn logs_that_no_agent_writes() {
             call.x1 = prepared.component.unwrap_or(call.x1);
             let read = ask_starts(&dice, &described, &log, place, &call);
             started += u64::from(read.expect("a good log").is_some());
+            let (board, mut reading) = reading_at(&described, &log, place).expect("a good log");
+            if std::mem::take(&mut reading.powered_beyond) {
+                stopped += u64::from(reading.starts(&board, &call).is_some());
+            }
         }
     }
     println!("started in logs that no agent writes: {started}");
-    assert!(started > 500, "{dice}: {started}");
+    println!("not started because of a CPU that no set has: {stopped}");
+    assert!(started > 500 && stopped > 5, "{dice}: {started} {stopped}");
 }
 
 /// The bits of a record, and those of its word 6.

@@ -112,6 +112,25 @@ fn the_log_says_what_starts() {
     }
 }
 
+/// In a log that no agent writes: a CPU_ON of 64 that returned 0, anywhere
+/// before the call.
+#[test]
+fn nothing_starts_after_a_cpu_that_no_set_has() {
+    let host = updated();
+    let last = from_cpu(1, activate(1, UPDATED));
+    let target = 3 + 2 * 8 - 1;
+    for place in 0..=5 {
+        let (before, after) = host.log.split_at(place * RECORD_BYTES);
+        let mut on = host.log[..RECORD_BYTES].to_vec();
+        on[target] = 64;
+        let log = [before, &on, after].concat();
+        assert_eq!(starts_at(&host.board, &log, 6, &last), Ok(None), "place {place}");
+        on[target] = 1;
+        let log = [before, &on, after].concat();
+        assert_eq!(starts_at(&host.board, &log, 6, &last), Ok(Some(UPDATED)), "place {place}");
+    }
+}
+
 #[test]
 fn only_the_right_call_starts() {
     let host = updated();
