@@ -128,9 +128,10 @@ fn hold(rec: Record, s: State, a: Arrival, caller: Caller) -> Stepped
 fn settled(rec: Record, s: State) -> Record
     ensures { λ r. ⌜ r ≡ settledOf rec s ⌝ }
 {
+    let nobody = cpuset::none();
     Record {
         state: s,
-        held: cpuset::none(),
+        held: nobody,
         entry: [0; board::MOST_CPUS],
         context: [0; board::MOST_CPUS],
         ..rec

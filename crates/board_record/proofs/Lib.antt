@@ -1,3 +1,4 @@
 pub mod Clauses
+pub mod States
 pub mod Laws
 pub mod Pinned

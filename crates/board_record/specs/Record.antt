@@ -77,6 +77,10 @@ placeOf (Alone c) = alonePlace
 placeOf (HalfActivated c) = halfActivatedPlace
 placeOf Dead = 8
 
+-- the states in the order of that table, about component c where they have one
+abbrev pub inOrder : ℕ → List State
+inOrder c = Idle ∷ Preparing c ∷ HalfPrepared c ∷ Ready c ∷ Gathering c ∷ Together c ∷ Alone c ∷ HalfActivated c ∷ Dead ∷ []
+
 -- a prime job is running
 abbrev pub isPreparing : State → Bool
 isPreparing s = eqb (placeOf s) preparingPlace

@@ -18,8 +18,8 @@ use Rattle.board.proofs.Laws.{digit-fits, flag-digit, digit-flag}
 use Rattle.board_record.specs.Record.{placeOf}
 use Rattle.board_record.specs.declared.Record.{Record}
 use Rattle.board_record.specs.declared.State.{State}
-use Rattle.board_record.specs.declared.State.the-variants.{Idle, Preparing, HalfPrepared, Ready, Gathering, Together, Alone, HalfActivated, Dead}
 use Rattle.board_record.proofs.Clauses.{Sized}
+use Rattle.board_record.proofs.States.{every-state}
 use Rattle.flat.specs.Records.{isFlag, flatFlags, areFlags, subjectNumber, stateIn, isState, flatComponent, componentIn, isFlatComponent, absentFlat, flatComponents, componentsIn, areFlatComponents, flatBoard, boardIn, flatWith, flatOf, recordIn, isFlat}
 use Rattle.flat.specs.declared.FlatBoard.{FlatBoard}
 use Rattle.flat.specs.declared.FlatComponent.{FlatComponent}
@@ -42,26 +42,10 @@ flag-there n e = digit-flag n (omega (arith, leb-true n 1 e))
 
 -- ---- states
 pub state-back : (s : State) → stateIn (placeOf s) (subjectNumber s) ≡ s
-state-back Idle = refl
-state-back (Preparing c) = refl
-state-back (HalfPrepared c) = refl
-state-back (Ready c) = refl
-state-back (Gathering c) = refl
-state-back (Together c) = refl
-state-back (Alone c) = refl
-state-back (HalfActivated c) = refl
-state-back Dead = refl
+state-back = every-state (λ s. stateIn (placeOf s) (subjectNumber s)) (λ s. s) (λ c. refl)
 
 state-is : (s : State) → isState (placeOf s) (subjectNumber s) ≡ true
-state-is Idle = refl
-state-is (Preparing c) = refl
-state-is (HalfPrepared c) = refl
-state-is (Ready c) = refl
-state-is (Gathering c) = refl
-state-is (Together c) = refl
-state-is (Alone c) = refl
-state-is (HalfActivated c) = refl
-state-is Dead = refl
+state-is = every-state (λ s. isState (placeOf s) (subjectNumber s)) (λ s. true) (λ c. refl)
 
 -- a number and a component are those of the state that they make
 abbrev Makes : ℕ → ℕ → Type 0

@@ -1,7 +1,8 @@
 -- The table of rules (document 01, "Calls"): "one row for each state and one cell for each call". Assumes nothing.
 use Prim.Native.Nat.{ℕ}
-use mathlib.Core.List.{List, [], _∷_, map}
+use mathlib.Core.List.{map}
 use lib.ListN.{length, getD}
+use Rattle.board_record.specs.Record.{inOrder}
 use Rattle.board_record.specs.declared.State.{State}
 use Rattle.board_record.specs.declared.State.the-variants.{Idle, Preparing, HalfPrepared, Ready, Gathering, Together, Alone, HalfActivated, Dead}
 use Rattle.rules.specs.declared.cells.PrimeCell.{PrimeCell}
@@ -30,13 +31,10 @@ ruleOf (Alone c) = cells (prime.Answers 7) activate.Try (cancel.Answers 2) power
 ruleOf (HalfActivated c) = cells (prime.Answers 7) activate.Try cancel.ToIdle power.Frozen
 ruleOf Dead = cells (prime.Answers 7) (activate.Answers 7) (cancel.Answers 0) power.Free
 
--- the order of the rows in the code's table, each at its state's place
-abbrev inOrder : List State
-inOrder = Idle ∷ Preparing 0 ∷ HalfPrepared 0 ∷ Ready 0 ∷ Gathering 0 ∷ Together 0 ∷ Alone 0 ∷ HalfActivated 0 ∷ Dead ∷ []
-
+-- the code's table has a row for each of the states in order
 abbrev pub states : ℕ
-states = length inOrder
+states = length (inOrder 0)
 
 -- no state asks for a row past the last: the first cell of each kind there is the kit's reading of an array past its end
 abbrev pub rowAt : ℕ → Row
-rowAt i = getD (map ruleOf inOrder) i (cells prime.Try activate.Try cancel.ToIdle power.Free)
+rowAt i = getD (map ruleOf (inOrder 0)) i (cells prime.Try activate.Try cancel.ToIdle power.Free)

@@ -18,6 +18,7 @@ use board_record::Subject;
 use codes::CANCEL;
 use codes::Call;
 use codes::VERSION;
+use cpuset::CpuSet;
 ghost use mathlib.Core.Path.{_≡_};
 ghost use Prim.Native.Nat.{_+_, _≤_};
 ghost use Rattle.board.specs.Description.{uuidBytes};
@@ -217,15 +218,21 @@ fn are_fields_right(rec: Record, call: Call) -> bool
     false
 }
 
+// Those that a rendezvous waits for: the powered CPUs, and none that is off.
+fn awaited(rec: Record) -> CpuSet
+    ensures { λ r. ⌜ r ≡ rec .on ⌝ }
+{
+    rec.on
+}
+
 // The caller joins those that are held: the last one starts the activation.
 fn join(rec: Record, call: Call) -> Move
     ensures { λ r. ⌜ r ≡ joinOf rec call ⌝ }
 {
     let b = rec.board;
     let a = arrival(call, board::may_reset(b, call.x1));
-    let on = rec.on;
     let held = rec.held;
-    if cpuset::same(cpuset::with(held, call.cpu), on) {
+    if cpuset::same(cpuset::with(held, call.cpu), awaited(rec)) {
         Move::StartTogether(a)
     } else {
         Move::Gather(a)

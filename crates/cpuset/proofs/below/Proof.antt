@@ -13,14 +13,14 @@ shl-t4 : tie.Need-shl-t4
 shl-t4 c = search needs
 
 sub-t5 : tie.Need-sub-t5
-sub-t5 c = rw (one-shl _ (c .if1 .taken)) (pow-pos _)
+sub-t5 c = rw (one-shl (c .before .args .n) (omega arith)) (pow-pos _)
 
 returns : tie.Need-returns
 unfolding belowOf
 returns c =
     let n = c .before .args .n in
     let low : min (n - 0) 64 ≡ n = omega arith in
-    rw (one-shl n (c .if1 .taken), low)
+    rw (one-shl n (omega arith), low)
 
 returns-2 : tie.Need-returns-2
 unfolding belowOf

@@ -1,6 +1,7 @@
 -- `cpuset::has` meets its contract: the bit of a number that there is room for, and no other is a member. Assumes nothing.
 use mathlib.Core.Path.{sym}
 use mathlib.Core.List.{[]}
+use native.Mathlib.Omega.{arith}
 use borrow.Author.Needs.{needs}
 use Rattle.cpuset.specs.Bit.{bit}
 use Rattle.cpuset.specs.Words.{member-first}
@@ -14,7 +15,7 @@ shr-result c = search needs
 
 returns : tie.Need-returns
 unfolding hasOf bit
-returns c = sym (member-first _ [] _ (c .before .if1 .taken))
+returns c = sym (member-first _ [] (c .before .before .args .i) (omega arith))
 
 returns-2 : tie.Need-returns-2
 unfolding room

@@ -21,7 +21,7 @@ returns c =
     let i = c .before .args .i in
     let q : i / 64 ≡ 0 = omega arith in
     let r : i % 64 ≡ i = omega arith in
-    rw (one-shl i (c .if1 .taken), q, r)
+    rw (one-shl i (omega arith), q, r)
 
 returns-2 : tie.Need-returns-2
 unfolding room

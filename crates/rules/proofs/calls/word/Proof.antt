@@ -1,7 +1,7 @@
-use Prim.Native.Nat.{_+_, _-_, _*_, _^_, _≤_}
+use Prim.Native.Nat.{ℕ, _+_, _-_, _*_, _^_, _≤_}
 use native.Mathlib.Omega.{arith}
 use lib.ListN.{getD}
-use mir.Syntax.{w8}
+use mir.Syntax.{w8, w64}
 use mir.Val.{Fits}
 use borrow.Author.Needs.{needs}
 use Rattle.rules.proofs.Laws.{Word, word-none, word-more, word-fits, word-done}
@@ -36,20 +36,23 @@ room : (c : tie.In-loop Inv-loop μ-loop) → 256 * c .before .loop .w + 256 ≤
 room c = word-fits _ 8 _ (c .loop-test .taken) (c .before .loop .inv .1 .1)
 
 -- its type says that an array of u8 holds bytes
-byte : (c : tie.In-loop Inv-loop μ-loop) → Fits w8 (getD (c .before .before .args .t1) (c .before .before .args .i + 8 - (c .before .loop .n + 1)) 0)
-byte c = search needs
+byte : (c : tie.In-loop Inv-loop μ-loop) (k : ℕ) → Fits w8 (getD (c .before .before .args .t1) k 0)
+byte c k = search needs
+
+byte-more : (b w : ℕ) → Fits w8 b → 256 * w + 256 ≤ 2 ^ 64 → Fits w64 (b + 256 * w)
+byte-more b w f l = omega arith
 
 mul-w : tie.Need-mul-w Inv-loop μ-loop
 mul-w c = omega (arith, room c)
 
 add-w-2 : tie.Need-add-w-2 Inv-loop μ-loop
-add-w-2 c = omega (arith, room c, byte c)
+add-w-2 c = byte-more _ _ (byte c _) (room c)
 
 loop-less : tie.Need-loop-less Inv-loop μ-loop
 loop-less c = search needs
 
 loop-again : tie.Need-loop-again Inv-loop μ-loop
-loop-again c = (search needs, word-more _ _ _ _ _ (omega arith) (byte c .fits) (c .before .loop .inv .1))
+loop-again c = (search needs, word-more _ _ _ _ _ (omega arith) (byte c _ .fits) (c .before .loop .inv .1))
 
 returns : tie.Need-returns Inv-loop μ-loop
 returns c = word-done _ _ _ _ _ (c .before .loop .inv .0) (c .loop-test .left) (c .before .loop .inv .1)
