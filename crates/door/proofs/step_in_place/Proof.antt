@@ -1,6 +1,6 @@
 -- `step_in_place` meets its contract: it is a door over `agent::step`, by the walk of crates/walks. That what the walk shows is what is
 -- promised is `shown`. Assumes nothing.
-use mathlib.Core.Path.{refl}
+use mathlib.Core.Path.{_≡_, refl}
 use Rattle.walks.proofs.InPlace.{Door, shown, in-place}
 use Rattle.agent.specs.Step.{stepOf, entriesOf, contextsOf}
 use Rattle.agent.specs.declared.Stepped.{Stepped}
@@ -30,6 +30,8 @@ the-door = record {
   pair-one = Pair.the-type .to-one;
   step = step.name;
   stepOf = stepOf;
+  Steps = λ h e n m r. r ≡ stepOf h e n m;
+  stepped = λ t. t;
   entriesOf = entriesOf;
   contextsOf = contextsOf;
 }
