@@ -16,7 +16,8 @@ use Rattle.agent.specs.declared.Outcome.{Outcome}
 use Rattle.agent.specs.declared.Outcome.the-variants as outcome
 use Rattle.agent.specs.declared.Release.{Release}
 use Rattle.agent.specs.declared.Release.the-variants as release
-use Rattle.log_record.specs.Rules.{callKind, primeKind, activateKind, imageKind, returned, held, primeStarted, activationStarted, gone, numberOf as logNumber}
+use Rattle.codes.specs.Outcomes.{returned, held, primeStarted, activationStarted, gone}
+use Rattle.log_record.specs.Rules.{callKind, primeKind, activateKind, imageKind, numberOf as logNumber}
 use Rattle.log_record.specs.declared.LogRecord.{LogRecord}
 use Rattle.log_record.specs.declared.Written.{Written}
 use Rattle.log_record.specs.declared.Written.the-variants as written
