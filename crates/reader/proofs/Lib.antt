@@ -1,5 +1,6 @@
 pub mod Laws
 pub mod Meant
 pub mod Limits
+pub mod Numbers
 pub mod ExactlyWhen
 pub mod Pinned

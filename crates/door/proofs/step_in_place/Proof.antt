@@ -46,6 +46,7 @@ use denote.Triple.Walked.{Stays, stay-ref, stay-none, gave-slice, walkOf, AllGo,
 use denote.Triple.Clauses.{ensured, lasts, atExit}
 use denote.Exit.{yes}
 use Rattle.agent.specs.Step.{stepOf, entriesOf, contextsOf}
+use Rattle.agent.specs.Numbers.{saidOf, Answers}
 use Rattle.board_record.specs.declared.Record.{Record}
 use Rattle.agent.specs.declared.Stepped.{Stepped}
 use Rattle.agent.specs.declared.Outcome.{Outcome}
@@ -144,7 +145,7 @@ pair-typed 𝓤 H A W r v is = LL.lawful S.the-type S′.the-laws 𝓤 H A W .ty
 
 -- what the callee says
 abbrev Says : Record → Event → List ℕ → List ℕ → Stepped → List ℕ → List ℕ → Type 0
-Says h e ys₁ ys₂ r zs₁ zs₂ = (r ≡ stepOf h e (length ys₁) (length ys₂)) × (zs₁ ≡ entriesOf h e ys₁ ys₂) × (zs₂ ≡ contextsOf h e ys₁ ys₂)
+Says h e ys₁ ys₂ r zs₁ zs₂ = (r ≡ stepOf h e (length ys₁) (length ys₂)) × (zs₁ ≡ entriesOf h e ys₁ ys₂) × (zs₂ ≡ contextsOf h e ys₁ ys₂) × Answers h e (length ys₁) (length ys₂) (saidOf (r .outcome))
 
 module _ {M : Type 1} (𝓤 : URA M) (H : Heap 𝓤) (A : Atoms 𝓤) (W : Given 𝓤 H A) (at-mem : Memory → SProp 𝓤) (run : Routine → Fun 𝓤) (κ κ₁ κ₂ : Lft) (q q₁ q₂ : Share) (b o : ℕ) (γ : GName) (h : Record) (e : Event) (x₁ x₂ : RefT (List ℕ))
     (is-e : Is P0.the-row e ((e-val e) ∷ [])) where
@@ -165,7 +166,7 @@ module _ {M : Type 1} (𝓤 : URA M) (H : Heap 𝓤) (A : Atoms 𝓤) (W : Given
 
   -- what the callee says is what is promised here
   promised : (r : Stepped) (zs₁ zs₂ : List ℕ) → Says h e (x₁ .now) (x₂ .now) r zs₁ zs₂ → ent 𝓤 (emp 𝓤) (door.clauses 𝓤 H A at-mem run (κ, (κ₁, (κ₂, tt))) x .ensures tt (r .outcome) (atExit door.ended (κ, (κ₁, (κ₂, tt))) x (r .rec, (tt, (zs₁, (zs₂, tt))))))
-  promised r zs₁ zs₂ p = stands 𝓤 (ap (λ (s : Stepped). s .outcome) (p .0)) (stands 𝓤 (ap (λ (s : Stepped). s .rec) (p .0)) (stands 𝓤 (p .1) (factI 𝓤 _ (emp 𝓤) (p .2))))
+  promised r zs₁ zs₂ p = stands 𝓤 (ap (λ (s : Stepped). s .outcome) (p .0)) (stands 𝓤 (ap (λ (s : Stepped). s .rec) (p .0)) (stands 𝓤 (p .1) (stands 𝓤 (p .2) (factI 𝓤 _ (emp 𝓤) (p .3)))))
 
   exits : (r : Stepped) (zs₁ zs₂ : List ℕ) → Says h e (x₁ .now) (x₂ .now) r zs₁ zs₂ → length zs₁ ≡ length (x₁ .now) → length zs₂ ≡ length (x₂ .now) → Is N.the-row (r .outcome) (ans-val (r .outcome) ∷ [])
       → ent 𝓤 (sep 𝓤 (A .obs γ (T.the-row .coded .code (r .rec))) (sep 𝓤 (A .bor κ (Body (mem (T.the-row)) b o γ)) (sep 𝓤 (A .lft κ q) (sep 𝓤 (sep 𝓤 (A .lft κ₁ q₁) (sep 𝓤 (A .lft κ₂ q₂) (sem 𝓤 H A ftrue))) (sep 𝓤 (sem 𝓤 H A (finally u64 (x₁ .name) zs₁)) (sem 𝓤 H A (finally u64 (x₂ .name) zs₂))))))) (Post (ans-val (r .outcome)))
@@ -208,8 +209,8 @@ module _ {M : Type 1} (𝓤 : URA M) (H : Heap 𝓤) (A : Atoms 𝓤) (W : Given
         move ! (27 ∷ 28 ∷ 29 ∷ []) $ use3 W (raw (Step 𝓤 H A at-mem run .pre to-step)) (goes-step is-h) $
         calls-at ! fm (Step 𝓤 H A at-mem run) known to-step (and-then ! (load ! (from ! (stop !)) (look ! 14 refl)) (and-then ! (load ! (from ! (stop !)) (look ! 22 refl)) (and-then ! (load ! (from ! (stop !)) (look ! 10 refl)) (and-then ! (load ! (from ! (stop !)) (look ! 6 refl)) (no-more !))))) (λ v.
         use1 W (later (some (λ (r : Stepped). ((‵ (flft κ₁ q₁) ⊛ (‵ (flft κ₂ q₂) ⊛ ‵ ftrue)) ⊛ ‵ (S.the-row .own r (v ∷ []))) ⊛ raw (ensured 𝓤 H A step.ended (step.clauses 𝓤 H A at-mem run) (κ₁, (κ₂, tt)) (h, (e, (x₁, (x₂, tt)))) tt r)))) (id⊢ 𝓤 _) $ await ! tt $ pick ! (λ r.
-        split ! $ move ! (1 ∷ []) $ use1 W (some (λ (zs : Unit {0} × (Unit {0} × (List ℕ × (List ℕ × Unit {0})))). ‵ (lasts step.ended (κ₁, (κ₂, tt)) (h, (e, (x₁, (x₂, tt)))) zs) ⊛ raw (fact 𝓤 (r ≡ stepOf h e (length (x₁ .now)) (length (x₂ .now)))) ⊛ raw (fact 𝓤 ((zs .1 .1 .0) ≡ entriesOf h e (x₁ .now) (x₂ .now))) ⊛ raw (fact 𝓤 ((zs .1 .1 .1 .0) ≡ contextsOf h e (x₁ .now) (x₂ .now))))) (id⊢ 𝓤 _) $ pick ! (λ zs.
-        split ! $ move ! (1 ∷ []) $ split ! $ heard ! (r ≡ stepOf h e (length (x₁ .now)) (length (x₂ .now))) (λ t. split ! $ heard ! ((zs .1 .1 .0) ≡ entriesOf h e (x₁ .now) (x₂ .now)) (λ t₁. heard ! ((zs .1 .1 .1 .0) ≡ contextsOf h e (x₁ .now) (x₂ .now)) (λ t₂.
+        split ! $ move ! (1 ∷ []) $ use1 W (some (λ (zs : Unit {0} × (Unit {0} × (List ℕ × (List ℕ × Unit {0})))). ‵ (lasts step.ended (κ₁, (κ₂, tt)) (h, (e, (x₁, (x₂, tt)))) zs) ⊛ raw (fact 𝓤 (r ≡ stepOf h e (length (x₁ .now)) (length (x₂ .now)))) ⊛ raw (fact 𝓤 ((zs .1 .1 .0) ≡ entriesOf h e (x₁ .now) (x₂ .now))) ⊛ raw (fact 𝓤 ((zs .1 .1 .1 .0) ≡ contextsOf h e (x₁ .now) (x₂ .now))) ⊛ raw (fact 𝓤 (Answers h e (length (x₁ .now)) (length (x₂ .now)) (saidOf (r .outcome)))))) (id⊢ 𝓤 _) $ pick ! (λ zs.
+        split ! $ move ! (1 ∷ []) $ split ! $ heard ! (r ≡ stepOf h e (length (x₁ .now)) (length (x₂ .now))) (λ t. split ! $ heard ! ((zs .1 .1 .0) ≡ entriesOf h e (x₁ .now) (x₂ .now)) (λ t₁. split ! $ heard ! ((zs .1 .1 .1 .0) ≡ contextsOf h e (x₁ .now) (x₂ .now)) (λ t₂. heard ! (Answers h e (length (x₁ .now)) (length (x₂ .now)) (saidOf (r .outcome))) (λ t₃.
         fsplit ! $ drop ! $ fsplit ! $ drop ! $ fsplit ! $ fsplit ! $ move ! (1 ∷ []) $ feqL ! (λ m₁. move ! (1 ∷ []) $ fsplit ! $ fsplit ! $ move ! (1 ∷ []) $ feqL ! (λ m₂. move ! (1 ∷ []) $ move ! (2 ∷ 1 ∷ []) $
         move ! (3 ∷ []) $ split ! $ move ! (1 ∷ []) $ peeks ! S.the-row (Is S.the-row) (shows 𝓤 H A S.the-row) r (v ∷ []) (λ is.
         land ! (from ! (stop !)) (init ! 20 refl (pair-typed 𝓤 H A W r v is)) $ drop ! $ move ! (4 ∷ 5 ∷ 6 ∷ 7 ∷ 8 ∷ []) $
@@ -220,7 +221,7 @@ module _ {M : Type 1} (𝓤 : URA M) (H : Heap 𝓤) (A : Atoms 𝓤) (W : Given
         move ! (1 ∷ []) $ drop ! $ owned ! T.the-row (Is T.the-row) (LL.makes T.the-type T′.the-plain 𝓤 H A) (r .rec) _ (parts r v is .0) $ move ! (1 ∷ 0 ∷ []) $ closes ! tt T.the-row (r .rec) (rec-val (r .rec) ∷ []) b o $
         returns ! (look ! 27 refl) $ forget ! 7 refl $ forget ! 9 refl $ forget ! 11 refl $ forget ! 13 refl $ forget ! 15 refl $ forget ! 17 refl $ forget ! 19 refl $ forget ! 21 refl $ forget ! 23 refl $ forget ! 25 refl $ forget ! 27 refl $
         move ! (27 ∷ 28 ∷ []) $ free1 ! $ move ! (25 ∷ 26 ∷ []) $ free1 ! $ move ! (23 ∷ 24 ∷ []) $ free1 ! $ move ! (21 ∷ 22 ∷ []) $ free1 ! $ move ! (19 ∷ 20 ∷ []) $ free1 ! $ move ! (17 ∷ 18 ∷ []) $ free1 ! $ move ! (15 ∷ 16 ∷ []) $ free1 ! $ move ! (13 ∷ 14 ∷ []) $ free1 ! $ move ! (11 ∷ 12 ∷ []) $ free1 ! $ move ! (9 ∷ 10 ∷ []) $ free1 ! $ move ! (7 ∷ 8 ∷ []) $ free1 ! $ free0 ! $
-        keep ! (0 ∷ 1 ∷ 2 ∷ 3 ∷ 4 ∷ 5 ∷ []) $ by ! (exits r (zs .1 .1 .0) (zs .1 .1 .1 .0) (t, t₁, t₂) m₁ m₂ (parts r v is .1))))))))))))))))))))))))
+        keep ! (0 ∷ 1 ∷ 2 ∷ 3 ∷ 4 ∷ 5 ∷ []) $ by ! (exits r (zs .1 .1 .0) (zs .1 .1 .1 .0) (t, t₁, t₂, t₃) m₁ m₂ (parts r v is .1)))))))))))))))))))))))))
 
 module _ {M : Type 1} (𝓤 : URA M) (H : Heap 𝓤) (A : Atoms 𝓤) (W : Given 𝓤 H A) (at-mem : Memory → SProp 𝓤) (run : Routine → Fun 𝓤) where
   door-walks : (C : Calls 𝓤 H) (Λ : Loops 𝓤 H) → FmC 𝓤 H (W .laws) C → Triple 𝓤 (C #agent·step) (Step 𝓤 H A at-mem run) → Walks 𝓤 H A door.ended stayed (WpFn 𝓤 H C Λ code.function) (door.clauses 𝓤 H A at-mem run)
