@@ -3,4 +3,5 @@ pub mod Laws
 pub mod Kept
 pub mod Stays
 pub mod Refused
+pub mod Numbers
 pub mod Pinned

@@ -20,6 +20,10 @@ no {A} {b} {y} {z} x e p = subst (λ (t : Bool). z ≡ pick t x y) (sym e) p
 pub by : {f b v : Bool} → f ≡ b → f ≡ v → b ≡ v
 by p q = sym p ∙ q
 
+-- what is so of every answer that the promise names is so of this one, beside the equation: the two clauses of a promise
+pub and-so : {A : Type 0} {P : A → Type 0} {x d : A} → ((y : A) → y ≡ d → P y) → x ≡ d → (x ≡ d) × P x
+and-so f e = (e, f _ e)
+
 -- what holds of both ways holds of the choice, each with its test at hand
 pub pick-cases : {A : Type 0} (P : A → Type 0) (b : Bool) (x y : A) → (b ≡ true → P x) → (b ≡ false → P y) → P (pick b x y)
 pick-cases P true x y t f = t refl

@@ -2,3 +2,4 @@ pub mod Choice
 pub mod Order
 pub mod Every
 pub mod Places
+pub mod First

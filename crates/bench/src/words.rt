@@ -1,13 +1,13 @@
 // What the columns of a line say.
+use codes::ACTIVATION_STARTED;
+use codes::GONE;
+use codes::HELD;
+use codes::NOTED;
+use codes::PRIME_STARTED;
+use codes::RELEASED;
+use codes::RETURNED;
 use libc::STDOUT_FILENO;
-use log_record::ACTIVATION_STARTED;
-use log_record::GONE;
-use log_record::HELD;
 use log_record::LogRecord;
-use log_record::NOTED;
-use log_record::PRIME_STARTED;
-use log_record::RELEASED;
-use log_record::RETURNED;
 use reader::Started;
 use rules::Refusal;
 use trace::Replayed;

@@ -154,9 +154,9 @@ typed-long c t =
 
 -- the ways that a write ends
 module _ (d : List ℕ) (b : Board) where
-  pub unwritable : (x : Refusal) → writableOf b ≡ Refused x → (Nothing x ≡ putOf (length d) b) × ((d ≡ bufferOf d b) × ((0 ≡ length (partOf d b)) × Unit {0}))
+  pub unwritable : (x : Refusal) → writableOf b ≡ Refused x → (Nothing x ≡ putOf (length d) b) × ((d ≡ bufferOf d b) × (0 ≡ length (partOf d b)))
   unfolding putOf
-  unwritable x e = rw e (refl, (put-none d, (refl, tt)))
+  unwritable x e = rw e (refl, (put-none d, refl))
 
   pub by-room : (r : Written) (e : List ℕ) → writableOf b ≡ Accepted → r ≡ putBy Accepted (length d) (lengthOf (b .components)) → e ≡ put d 0 (partBy r b) → lengthIn r ≡ length (partBy r b) → (r ≡ putOf (length d) b) × ((e ≡ bufferOf d b) × (lengthIn r ≡ length (partOf d b)))
   unfolding putOf

@@ -1,4 +1,5 @@
 pub mod Description
 pub mod Packed
 pub mod Marks
+pub mod Numbers
 pub mod Examples

@@ -28,6 +28,14 @@ subjectOf (Alone c) = Of c
 subjectOf (HalfActivated c) = Of c
 subjectOf Dead = Nothing
 
+-- its number, 0 where there is none
+abbrev pub aboutNumber : Subject → ℕ
+aboutNumber Nothing = 0
+aboutNumber (Of c) = c
+
+abbrev pub subjectNumber : State → ℕ
+subjectNumber s = aboutNumber (subjectOf s)
+
 abbrev pub isAbout : Subject → ℕ → Bool
 isAbout Nothing id = false
 isAbout (Of c) id = eqb c id

@@ -18,7 +18,7 @@ fn image() -> LogRecord {
         kind: log_record::IMAGE,
         cpu: 0,
         code: 0,
-        outcome: log_record::NOTED,
+        outcome: codes::NOTED,
         w1: 0,
         w2: 1,
         w3: 5,
@@ -34,7 +34,7 @@ fn started() -> LogRecord {
         kind: log_record::CALL,
         cpu: 5,
         code: 0,
-        outcome: log_record::PRIME_STARTED,
+        outcome: codes::PRIME_STARTED,
         w1: codes::PRIME,
         w2: 1,
         w3: 0,
@@ -133,13 +133,13 @@ fn numbers() {
     named(b"activate", log_record::ACTIVATE_REPORT);
     named(b"image", log_record::IMAGE);
     text(b"\noutcomes:");
-    named(b"returned", log_record::RETURNED);
-    named(b"held", log_record::HELD);
-    named(b"prime-started", log_record::PRIME_STARTED);
-    named(b"activation-started", log_record::ACTIVATION_STARTED);
-    named(b"gone", log_record::GONE);
-    named(b"released", log_record::RELEASED);
-    named(b"noted", log_record::NOTED);
+    named(b"returned", codes::RETURNED);
+    named(b"held", codes::HELD);
+    named(b"prime-started", codes::PRIME_STARTED);
+    named(b"activation-started", codes::ACTIVATION_STARTED);
+    named(b"gone", codes::GONE);
+    named(b"released", codes::RELEASED);
+    named(b"noted", codes::NOTED);
     text(b"\n");
 }
 

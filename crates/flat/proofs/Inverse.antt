@@ -15,12 +15,12 @@ use Rattle.board.specs.Packed.{digitOf, flagIn}
 use Rattle.board.specs.declared.Board.{Board}
 use Rattle.board.specs.declared.Component.{Component}
 use Rattle.board.proofs.Laws.{digit-fits, flag-digit, digit-flag}
-use Rattle.board_record.specs.Record.{placeOf}
+use Rattle.board_record.specs.Record.{placeOf, subjectNumber}
 use Rattle.board_record.specs.declared.Record.{Record}
 use Rattle.board_record.specs.declared.State.{State}
 use Rattle.board_record.proofs.Clauses.{Sized}
 use Rattle.board_record.proofs.States.{every-state}
-use Rattle.flat.specs.Records.{isFlag, flatFlags, areFlags, subjectNumber, stateIn, isState, flatComponent, componentIn, isFlatComponent, absentFlat, flatComponents, componentsIn, areFlatComponents, flatBoard, boardIn, flatWith, flatOf, recordIn, isFlat}
+use Rattle.flat.specs.Records.{isFlag, flatFlags, areFlags, stateIn, isState, flatComponent, componentIn, isFlatComponent, absentFlat, flatComponents, componentsIn, areFlatComponents, flatBoard, boardIn, flatWith, flatOf, recordIn, isFlat}
 use Rattle.flat.specs.declared.FlatBoard.{FlatBoard}
 use Rattle.flat.specs.declared.FlatComponent.{FlatComponent}
 use Rattle.flat.specs.declared.FlatRecord.{FlatRecord}

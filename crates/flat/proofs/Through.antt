@@ -25,6 +25,7 @@ use Rattle.rules.specs.declared.Refusal.{Refusal}
 use Rattle.rules.specs.declared.Refusal.the-variants.{NotWellFormed, TableShort, NoSuchCpu, CpuOff, CpuHeld, NoSuchJob, CodeNotAllowed, NotCapable, StateComponent}
 use Rattle.agent.specs.Perform.{refusedOf}
 use Rattle.agent.specs.Step as agent
+use Rattle.agent.specs.Numbers.{outcomeOf, returnedOf, releaseNumber, freedBy, refusedWith, acceptedWith}
 use Rattle.agent.specs.declared.Answer.{Answer}
 use Rattle.agent.specs.declared.Caller.{Caller}
 use Rattle.agent.specs.declared.Caller.the-variants as caller
@@ -37,8 +38,8 @@ use Rattle.agent.proofs.Kept.{step-kept}
 use Rattle.agent.proofs.Stays.{step-board}
 use Rattle.agent.proofs.Refused.{refused-stays, never-nine}
 use Rattle.logbook.specs.Log.{blank}
-use Rattle.trace.specs.Logged.{outcomeOf, loggedOf}
-use Rattle.flat.specs.Answers.{eventIn, returnedOf, releaseNumber, freedOf, refusedAnswer, acceptedAnswer, answerOf, callerIn, releaseIn, acceptedIn, loggedIn}
+use Rattle.trace.specs.Logged.{loggedOf}
+use Rattle.flat.specs.Answers.{eventIn, answerBy, refusedAnswer, answerOf, callerIn, releaseIn, acceptedIn, loggedIn}
 use Rattle.flat.specs.Calls.{freshIn, noEvent, keptWith, throughOf, stepOf, entriesOf, contextsOf}
 use Rattle.flat.specs.Records.{flatWith, flatOf, flatBoard, boardIn, recordIn, isFlat, flatStands, areFlatComponents, componentIn, absentFlat, componentsIn}
 use Rattle.flat.specs.declared.FlatAnswer.{FlatAnswer}
@@ -59,13 +60,13 @@ caller-back caller.PrimeStarted = refl
 caller-back caller.ActivationStarted = refl
 caller-back caller.Gone = refl
 
-release-back : (l : Release) → releaseIn (releaseNumber l) (freedOf l) ≡ l
+release-back : (l : Release) → releaseIn (releaseNumber l) (freedBy l) ≡ l
 release-back release.Nobody = refl
 release-back (release.Returned f) = refl
 release-back (release.Resumed s) = refl
 
-pub accepted-back : (a : Answer) → acceptedIn (acceptedAnswer a) ≡ a
-unfolding acceptedIn acceptedAnswer
+pub accepted-back : (a : Answer) → acceptedIn (answerBy (acceptedWith a)) ≡ a
+unfolding acceptedIn answerBy acceptedWith
 accepted-back a = rw (caller-back (a .caller), release-back (a .release))
 
 -- the refusal of a number; of another than these nine, 9
@@ -85,7 +86,7 @@ abbrev pub outcomeIn : FlatAnswer → Outcome
 outcomeIn a = pick (eqb (a .refusal) 0) (Accepted (acceptedIn a)) (Refused (refusalIn (a .refusal)))
 
 refused-back : (x : Refusal) → outcomeIn (refusedAnswer (numberOf x)) ≡ Refused x
-unfolding refusedAnswer
+unfolding answerBy refusedWith
 refused-back NotWellFormed = refl
 refused-back TableShort = refl
 refused-back NoSuchCpu = refl
@@ -96,8 +97,8 @@ refused-back CodeNotAllowed = refl
 refused-back NotCapable = refl
 refused-back StateComponent = refl
 
-accepted-whole : (a : Answer) → outcomeIn (acceptedAnswer a) ≡ Accepted a
-unfolding acceptedAnswer
+accepted-whole : (a : Answer) → outcomeIn (answerBy (acceptedWith a)) ≡ Accepted a
+unfolding answerBy acceptedWith
 accepted-whole a = ap Accepted (accepted-back a)
 
 pub outcome-back : (o : Outcome) → outcomeIn (answerOf o) ≡ o
@@ -105,8 +106,8 @@ outcome-back (Refused x) = refused-back x
 outcome-back (Accepted a) = accepted-whole a
 
 -- an accepted answer has no refusal
-accepted-none : (a : Answer) → acceptedAnswer a .refusal ≡ 0
-unfolding acceptedAnswer
+accepted-none : (a : Answer) → answerBy (acceptedWith a) .refusal ≡ 0
+unfolding answerBy acceptedWith
 accepted-none a = refl
 
 -- ---- one event
@@ -135,9 +136,9 @@ module _ (f : FlatRecord) (flat : isFlat f ≡ true) (e : FlatEvent) (known : Ev
 
   -- and an accepted event's log record is the agent's
   pub logged-through : (a : Answer) → own .outcome ≡ Accepted a → loggedIn e (stepOf f e n m .answer) ≡ loggedOf known a
-  unfolding loggedIn acceptedAnswer
+  unfolding loggedIn answerBy acceptedWith
   logged-through a o =
-      let said : stepOf f e n m .answer ≡ acceptedAnswer a = answer-through ∙ ap answerOf o in
+      let said : stepOf f e n m .answer ≡ answerBy (acceptedWith a) = answer-through ∙ ap answerOf o in
       rw (said, accepted-none a, is) (ap (loggedOf known) (accepted-back a))
 
 -- the tables too
@@ -190,7 +191,7 @@ module _ (f : FlatRecord) (z : SizedFlat f) (e : FlatEvent) (entries contexts : 
 
 -- ---- refusal 9 is for what is not well formed, and for nothing else
 nine-only : (x : Refusal) → refusedAnswer (numberOf x) .refusal ≡ 9 → x ≡ NotWellFormed
-unfolding refusedAnswer
+unfolding answerBy refusedWith
 nine-only x e = let same : Refused x ≡ Refused NotWellFormed = sym (refused-back x) ∙ ap (λ (n : ℕ). outcomeIn (refusedAnswer n)) e in cc
 
 ill-formed : (r : Record) (e : Event) (n m : ℕ) → wellFormed r ≡ false → agent.stepOf r e n m .outcome ≡ Refused NotWellFormed
@@ -198,13 +199,13 @@ unfolding agent.stepOf decideOf refusedOf
 ill-formed r e n m w = rw w
 
 stands-aside : (f : FlatRecord) (e : FlatEvent) (n m : ℕ) → isFlat f ≡ false → stepOf f e n m .answer .refusal ≡ 9
-unfolding stepOf keptWith refusedAnswer
+unfolding stepOf keptWith answerBy refusedWith
 stands-aside f e n m flat = rw flat
 
 -- of an event that is none of the four
 module _ (f : FlatRecord) (flat : isFlat f ≡ true) (e : FlatEvent) (is : eventIn e ≡ Unknown) (n m : ℕ) where
   none-refusal : stepOf f e n m .answer .refusal ≡ noEvent (recordIn f) n m
-  unfolding stepOf keptWith refusedAnswer
+  unfolding stepOf keptWith answerBy refusedWith
   none-refusal = rw (flat, is)
 
   none-given : wellFormed (recordIn f) ≡ false → stepOf f e n m .answer .refusal ≡ 9
@@ -224,7 +225,7 @@ module _ (f : FlatRecord) (flat : isFlat f ≡ true) (e : FlatEvent) (known : Ev
   agents-refusal o q = ap (λ (y : FlatAnswer). y .refusal) (answer-through f flat e known is n m ∙ ap answerOf q)
 
   known-given : wellFormed (recordIn f) ≡ false → stepOf f e n m .answer .refusal ≡ 9
-  unfolding refusedAnswer
+  unfolding answerBy refusedWith
   known-given w = agents-refusal (Refused NotWellFormed) (ill-formed (recordIn f) known n m w)
 
   known-when : wellFormed (recordIn f) ≡ true → stepOf f e n m .answer .refusal ≡ 9

@@ -2,35 +2,31 @@
 use Prim.Native.Nat.{ℕ}
 use lib.Dec.{eqb}
 use Rattle.basics.specs.Choice.{pick}
-use Rattle.cpuset.specs.Set.{noneOf}
-use Rattle.cpuset.specs.declared.CpuSet.{CpuSet}
-use Rattle.board.specs.Description.{numberOf as boardNumber}
-use Rattle.rules.specs.Statuses.{numberOf as ruleNumber}
 use Rattle.rules.specs.declared.Event.the-variants as event
 use Rattle.rules.specs.declared.Registers.{Registers}
+use Rattle.agent.specs.Numbers.{withStatus, byEntry, Said, refusedWith, saidOf}
 use Rattle.agent.specs.declared.Answer.{Answer}
 use Rattle.agent.specs.declared.Caller.{Caller}
 use Rattle.agent.specs.declared.Caller.the-variants as caller
 use Rattle.agent.specs.declared.Freed.{Freed}
 use Rattle.agent.specs.declared.Outcome.{Outcome}
-use Rattle.agent.specs.declared.Outcome.the-variants as outcome
 use Rattle.agent.specs.declared.Release.{Release}
 use Rattle.agent.specs.declared.Release.the-variants as release
-use Rattle.log_record.specs.Rules.{callKind, primeKind, activateKind, imageKind, returned, held, primeStarted, activationStarted, gone, numberOf as logNumber}
+use Rattle.codes.specs.Outcomes.{returned, held, primeStarted, activationStarted, gone}
+use Rattle.log_record.specs.Rules.{callKind, primeKind, activateKind, imageKind, numberOf as logNumber}
+use Rattle.log_record.specs.Packed.{lengthIn}
+use Rattle.log_record.specs.Numbers.{refusalIn}
 use Rattle.log_record.specs.declared.LogRecord.{LogRecord}
 use Rattle.log_record.specs.declared.Written.{Written}
-use Rattle.log_record.specs.declared.Written.the-variants as written
 use Rattle.logbook.specs.Log.{blank}
+use Rattle.logbook.specs.Numbers.{foundIn as primedIn, componentIn as primedComponent, Numbers as LogNumbers, numbersOf as logNumbers}
 use Rattle.logbook.specs.declared.Answer.{Answer as LogAnswer}
-use Rattle.logbook.specs.declared.Answer.the-variants as log-answer
 use Rattle.logbook.specs.declared.Flaw.{Flaw}
 use Rattle.logbook.specs.declared.Primed.{Primed}
-use Rattle.logbook.specs.declared.Primed.the-variants as primed
+use Rattle.reader.specs.Numbers.{foundIn as startedIn, componentIn as startedComponent, Numbers as StartNumbers, refusedWith as notStartedWith, numbersOf as startNumbers}
 use Rattle.reader.specs.declared.Answer.{Answer as StartAnswer}
-use Rattle.reader.specs.declared.Answer.the-variants as start-answer
 use Rattle.reader.specs.declared.Started.{Started}
-use Rattle.reader.specs.declared.Started.the-variants as started
-use Rattle.trace.specs.Logged.{outcomeOf, loggedOf}
+use Rattle.trace.specs.Logged.{loggedOf}
 use Rattle.flat.specs.declared.FlatAnswer.{FlatAnswer}
 use Rattle.flat.specs.declared.FlatEvent.{FlatEvent}
 use Rattle.flat.specs.declared.FlatFound.{FlatFound}
@@ -49,60 +45,16 @@ eventIn e =
     (pick (eqb (e .kind) imageKind) (Known (event.Image (e .image)))
     Unknown)))
 
--- ---- answers: the caller's part as the log numbers outcomes, 0 where there is none
-abbrev pub noRegisters : Registers
-noRegisters = record { x0 = 0; x1 = 0; x2 = 0; x3 = 0 }
-
-abbrev pub returnedOf : Caller → Registers
-returnedOf caller.Nothing = noRegisters
-returnedOf (caller.Returned x) = x
-returnedOf caller.Held = noRegisters
-returnedOf caller.PrimeStarted = noRegisters
-returnedOf caller.ActivationStarted = noRegisters
-returnedOf caller.Gone = noRegisters
-
--- "nobody, a set of CPUs with one X0 and X1, or a set that resumes by entry address"
-abbrev pub withStatus : ℕ
-withStatus = 1
-
-abbrev pub byEntry : ℕ
-byEntry = 2
-
-abbrev pub releaseNumber : Release → ℕ
-releaseNumber release.Nobody = 0
-releaseNumber (release.Returned f) = withStatus
-releaseNumber (release.Resumed cpus) = byEntry
-
-abbrev pub freedWith : CpuSet → Freed
-freedWith s = record { cpus = s; x0 = 0; x1 = 0 }
-
-abbrev pub freedOf : Release → Freed
-freedOf release.Nobody = freedWith noneOf
-freedOf (release.Returned f) = f
-freedOf (release.Resumed s) = freedWith s
+-- ---- answers: the agent's numbers as they cross
+unfoldable pub answerBy : Said → FlatAnswer
+answerBy s = record { refusal = s .refusal; caller = s .caller; returned = s .returned; release = s .release; freed = s .freed }
 
 -- a refusal "comes with nothing else"
-unfoldable pub refusedAnswer : ℕ → FlatAnswer
-refusedAnswer n = record {
-  refusal = n;
-  caller = 0;
-  returned = noRegisters;
-  release = 0;
-  freed = freedWith noneOf;
-}
-
-unfoldable pub acceptedAnswer : Answer → FlatAnswer
-acceptedAnswer a = record {
-  refusal = 0;
-  caller = outcomeOf (a .caller);
-  returned = returnedOf (a .caller);
-  release = releaseNumber (a .release);
-  freed = freedOf (a .release);
-}
+abbrev pub refusedAnswer : ℕ → FlatAnswer
+refusedAnswer n = answerBy (refusedWith n)
 
 abbrev pub answerOf : Outcome → FlatAnswer
-answerOf (outcome.Refused x) = refusedAnswer (ruleNumber x)
-answerOf (outcome.Accepted a) = acceptedAnswer a
+answerOf o = answerBy (saidOf o)
 
 -- ---- and back: the parts of an accepted answer
 abbrev pub callerIn : ℕ → Registers → Caller
@@ -135,8 +87,7 @@ unfoldable pub loggedIn : FlatEvent → FlatAnswer → LogRecord
 loggedIn e a = pick (eqb (a .refusal) 0) (loggedBy (eventIn e) a) blank
 
 abbrev pub writtenBy : Written → FlatWritten
-writtenBy (written.Bytes n) = record { refusal = 0; bytes = n }
-writtenBy (written.Nothing x) = record { refusal = logNumber x; bytes = 0 }
+writtenBy w = record { refusal = refusalIn w; bytes = lengthIn w }
 
 -- ---- what questions find
 abbrev pub foundOf : ℕ → FlatFound
@@ -146,24 +97,25 @@ abbrev pub notFound : FlatFound
 notFound = record { found = 0; component = 0 }
 
 abbrev pub primedFound : Primed → FlatFound
-primedFound primed.Nothing = notFound
-primedFound (primed.Of c) = foundOf c
+primedFound p = record { found = primedIn p; component = primedComponent p }
 
 abbrev pub startedFound : Started → FlatFound
-startedFound started.Nothing = notFound
-startedFound (started.Of c) = foundOf c
+startedFound s = record { found = startedIn s; component = startedComponent s }
+
+unfoldable pub preparedWith : LogNumbers → FlatPrepared
+preparedWith n = record { refusal = n .refusal; place = n .place; prepared = record { found = n .found; component = n .component }; looked = n .looked }
 
 abbrev pub preparedBy : LogAnswer → FlatPrepared
-preparedBy (log-answer.Found p) = record { refusal = 0; place = 0; prepared = primedFound (p .primed); looked = p .looked }
-preparedBy (log-answer.Refused f) = record { refusal = logNumber (f .refusal); place = f .place; prepared = notFound; looked = 0 }
+preparedBy a = preparedWith (logNumbers a)
+
+unfoldable pub startedWith : StartNumbers → FlatStarted
+startedWith n = record { refusal = n .refusal; place = n .place; started = record { found = n .found; component = n .component } }
 
 abbrev pub notStarted : ℕ → ℕ → FlatStarted
-notStarted n k = record { refusal = n; place = k; started = notFound }
+notStarted n k = startedWith (notStartedWith n k)
 
 abbrev pub logRefused : Flaw → FlatStarted
 logRefused f = notStarted (logNumber (f .refusal)) (f .place)
 
 abbrev pub startedBy : StartAnswer → FlatStarted
-startedBy (start-answer.Found s) = record { refusal = 0; place = 0; started = startedFound s }
-startedBy (start-answer.BoardRefused x) = notStarted (boardNumber x) 0
-startedBy (start-answer.LogRefused f) = logRefused f
+startedBy a = startedWith (startNumbers a)

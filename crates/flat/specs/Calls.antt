@@ -4,8 +4,8 @@ use mathlib.Core.List.{List}
 use lib.Dec.{ltb}
 use Rattle.basics.specs.Choice.{pick}
 use Rattle.codes.specs.declared.Call.{Call}
-use Rattle.board.specs.Description.{numberOf as boardNumber}
 use Rattle.board.specs.Packed.{readOf}
+use Rattle.board.specs.Numbers.{refusalOf}
 use Rattle.board.specs.declared.Verdict.{Verdict}
 use Rattle.board.specs.declared.Verdict.the-variants.{Accepted, Refused}
 use Rattle.board.specs.declared.Board.{Board}
@@ -35,12 +35,12 @@ use Rattle.flat.specs.declared.answers.Read.{Read}
 use Rattle.flat.specs.declared.answers.Read.the-variants.{Known, Unknown}
 
 -- ---- a fresh record from a packed board
-abbrev pub freshBy : Verdict → Board → FlatFresh
-freshBy Accepted b = record { refusal = 0; rec = flatOf (freshOf b) }
-freshBy (Refused x) b = record { refusal = boardNumber x; rec = zeroRecord }
+abbrev pub freshBy : Verdict → Board → FlatRecord
+freshBy Accepted b = flatOf (freshOf b)
+freshBy (Refused x) b = zeroRecord
 
 unfoldable pub freshIn : List ℕ → FlatFresh
-freshIn s = freshBy (readOf s .verdict) (readOf s .board)
+freshIn s = record { refusal = refusalOf (readOf s .verdict); rec = freshBy (readOf s .verdict) (readOf s .board) }
 
 -- ---- one event: 9 where the numbers are no record's, then as the agent says
 unfoldable pub keptWith : FlatRecord → ℕ → FlatStepped

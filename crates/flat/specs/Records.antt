@@ -13,13 +13,11 @@ use Rattle.board.specs.Description.{mostComponents, mostCpus, uuidBytes, absent
 use Rattle.board.specs.Packed.{digitOf, flagIn}
 use Rattle.board.specs.declared.Board.{Board}
 use Rattle.board.specs.declared.Component.{Component}
-use Rattle.board_record.specs.Record.{subjectOf, placeOf}
+use Rattle.board_record.specs.Record.{placeOf, subjectNumber}
 use Rattle.board_record.specs.WellFormed.{wellFormed}
 use Rattle.board_record.specs.declared.Record.{Record}
 use Rattle.board_record.specs.declared.State.{State}
 use Rattle.board_record.specs.declared.State.the-variants.{Idle, Preparing, HalfPrepared, Ready, Gathering, Together, Alone, HalfActivated, Dead}
-use Rattle.board_record.specs.declared.Subject.{Subject}
-use Rattle.board_record.specs.declared.Subject.the-variants.{Nothing, Of}
 use Rattle.flat.specs.declared.FlatBoard.{FlatBoard}
 use Rattle.flat.specs.declared.FlatComponent.{FlatComponent}
 use Rattle.flat.specs.declared.FlatRecord.{FlatRecord}
@@ -38,13 +36,6 @@ abbrev pub areFlags : List ℕ → Bool
 areFlags all = allBelow mostComponents (λ i. isFlag (getD all i 0))
 
 -- ---- states: by their place in document 01's table of rules, from idle, 0, to dead, 8
-abbrev pub aboutNumber : Subject → ℕ
-aboutNumber Nothing = 0
-aboutNumber (Of c) = c
-
-abbrev pub subjectNumber : State → ℕ
-subjectNumber s = aboutNumber (subjectOf s)
-
 abbrev pub stateIn : ℕ → ℕ → State
 stateIn n c =
     pick (eqb n 0) Idle

@@ -8,21 +8,24 @@ use crate::FlatStarted;
 use crate::FlatStepped;
 use crate::FlatWritten;
 use agent::Answer;
+use agent::BY_ENTRY;
 use agent::Caller;
 use agent::Freed;
+use agent::NOBODY;
 use agent::Outcome;
 use agent::Release;
 use agent::Stepped;
+use agent::WITH_STATUS;
+use codes::ACTIVATION_STARTED;
+use codes::GONE;
+use codes::HELD;
+use codes::PRIME_STARTED;
+use codes::RETURNED;
 use log_record::ACTIVATE_REPORT;
-use log_record::ACTIVATION_STARTED;
 use log_record::CALL;
-use log_record::GONE;
-use log_record::HELD;
 use log_record::IMAGE;
 use log_record::LogRecord;
 use log_record::PRIME_REPORT;
-use log_record::PRIME_STARTED;
-use log_record::RETURNED;
 use log_record::Written;
 use logbook::Flaw;
 use logbook::Primed;
@@ -30,15 +33,8 @@ use reader::Started;
 use rules::Event;
 use rules::Registers;
 ghost use mathlib.Core.Path.{_≡_};
-ghost use Rattle.flat.specs.Answers.{eventIn, noRegisters, returnedOf, releaseNumber, freedOf, refusedAnswer, answerOf, callerIn, releaseIn, loggedIn, writtenBy, primedFound, foundOf, notFound, startedFound, preparedBy, notStarted, logRefused, startedBy};
+ghost use Rattle.flat.specs.Answers.{eventIn, refusedAnswer, answerOf, callerIn, releaseIn, loggedIn, writtenBy, primedFound, foundOf, notFound, startedFound, preparedBy, notStarted, logRefused, startedBy};
 ghost use Rattle.flat.specs.Calls.{keptWith, throughOf};
-
-// How CPUs are released.
-const NOBODY: u64 = 0;
-
-const WITH_STATUS: u64 = 1;
-
-const BY_ENTRY: u64 = 2;
 
 // An event, or none of the four.
 pub enum Read {
@@ -62,59 +58,6 @@ pub(crate) fn event(e: FlatEvent) -> Read
     }
 }
 
-fn no_registers() -> Registers
-    ensures { λ r. ⌜ r ≡ noRegisters ⌝ }
-{
-    Registers {
-        x0: 0,
-        x1: 0,
-        x2: 0,
-        x3: 0,
-    }
-}
-
-fn returned(c: Caller) -> Registers
-    ensures { λ r. ⌜ r ≡ returnedOf c ⌝ }
-{
-    match c {
-        Caller::Nothing => no_registers(),
-        Caller::Returned(x) => x,
-        Caller::Held => no_registers(),
-        Caller::PrimeStarted => no_registers(),
-        Caller::ActivationStarted => no_registers(),
-        Caller::Gone => no_registers(),
-    }
-}
-
-fn release_number(l: Release) -> u64
-    ensures { λ r. ⌜ r ≡ releaseNumber l ⌝ }
-{
-    match l {
-        Release::Nobody => NOBODY,
-        Release::Returned(_) => WITH_STATUS,
-        Release::Resumed(_) => BY_ENTRY,
-    }
-}
-
-// The CPUs that are released, with X0 and X1; by entry address these are 0.
-fn freed(l: Release) -> Freed
-    ensures { λ r. ⌜ r ≡ freedOf l ⌝ }
-{
-    match l {
-        Release::Nobody => Freed {
-            cpus: cpuset::none(),
-            x0: 0,
-            x1: 0,
-        },
-        Release::Returned(f) => f,
-        Release::Resumed(cpus) => Freed {
-            cpus: cpus,
-            x0: 0,
-            x1: 0,
-        },
-    }
-}
-
 // A refusal, and nothing else.
 fn refused_answer(number: u64) -> FlatAnswer
     ensures { λ a. ⌜ a ≡ refusedAnswer number ⌝ }
@@ -122,9 +65,9 @@ fn refused_answer(number: u64) -> FlatAnswer
     FlatAnswer {
         refusal: number,
         caller: 0,
-        returned: no_registers(),
+        returned: agent::returned(Caller::Nothing),
         release: NOBODY,
-        freed: freed(Release::Nobody),
+        freed: agent::freed_by(Release::Nobody),
     }
 }
 
@@ -138,10 +81,10 @@ fn answer(o: Outcome) -> FlatAnswer
             let release = a.release;
             FlatAnswer {
                 refusal: 0,
-                caller: trace::outcome(caller),
-                returned: returned(caller),
-                release: release_number(release),
-                freed: freed(release),
+                caller: agent::caller_number(caller),
+                returned: agent::returned(caller),
+                release: agent::release_number(release),
+                freed: agent::freed_by(release),
             }
         }
     }

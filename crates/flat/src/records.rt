@@ -12,7 +12,8 @@ use board_record::State;
 use board_record::Subject;
 ghost use mathlib.Core.Path.{_≡_};
 ghost use Rattle.board.specs.Packed.{digitOf};
-ghost use Rattle.flat.specs.Records.{subjectNumber, stateIn, isState, flatComponent, componentIn, isFlatComponent, blankFlat, flatComponents, componentsIn, areFlatComponents, flatFlags, flagsIn, areFlags, flatBoard, boardIn, flatWith, flatOf, recordIn, isFlat, zeroRecord};
+ghost use Rattle.board_record.specs.Record.{subjectNumber};
+ghost use Rattle.flat.specs.Records.{stateIn, isState, flatComponent, componentIn, isFlatComponent, blankFlat, flatComponents, componentsIn, areFlatComponents, flatFlags, flagsIn, areFlags, flatBoard, boardIn, flatWith, flatOf, recordIn, isFlat, zeroRecord};
 
 // The number of idle, and of dead, which have no component.
 const IDLE: u64 = 0;

@@ -20,13 +20,13 @@ use Rattle.logbook.proofs.deciding.primed_by.Kinds as primed-by-kinds
 use Rattle.logbook.proofs.deciding.primed_by.Reads as primed-by-reads
 
 pub record-at-pinned : OneOutcome 1 record-at-kinds.ps record-at-kinds.r record-at-reads.Post
-record-at-pinned κs a z z′ ws ws′ p q = just p q
+record-at-pinned κs a z z′ ws ws′ p q = just (p .0) (q .0)
 
 pub check-log-pinned : OneOutcome 1 check-log-kinds.ps check-log-kinds.r check-log-reads.Post
-check-log-pinned κs a z z′ ws ws′ p q = just p q
+check-log-pinned κs a z z′ ws ws′ p q = just (p .0) (q .0)
 
 pub prepared-at-pinned : OneOutcome 1 prepared-at-kinds.ps prepared-at-kinds.r prepared-at-reads.Post
-prepared-at-pinned κs a z z′ ws ws′ p q = just p q
+prepared-at-pinned κs a z z′ ws ws′ p q = just (p .0) (q .0)
 
 pub prepared-next-pinned : OneOutcome 1 prepared-next-kinds.ps prepared-next-kinds.r prepared-next-reads.Post
 prepared-next-pinned κs a z z′ ws ws′ p q = just p q

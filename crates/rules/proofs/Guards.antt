@@ -18,7 +18,7 @@ use Rattle.board_record.proofs.Clauses.{told, none-free}
 use Rattle.board_record.specs.declared.Holding.the-variants.{All}
 use Rattle.board_record.specs.declared.Record.{Record}
 use Rattle.rules.specs.Statuses.{minusOf, numberOf}
-use Rattle.rules.specs.Numbers.{decodeOf}
+use Rattle.rules.specs.Numbers.{numberFor, decodeOf}
 use Rattle.rules.specs.Table.{ruleOf}
 use Rattle.rules.specs.Calls.{returned, says, noCaller, featuresOf, infoOf, describedOf, inventoryOf, arrivalOf, mayPrime, tryPrimeOf, trySameOf, primeBy, skips, skipRight, fieldsRight, joinOf, tryActivateOf, activateBy, isOther, cancelBy, cancelOf, offFree, offBy, wakeBy, onOf, functionOf, answerBy, answerOf, callOf}
 use Rattle.rules.specs.Reports.{isPriming, isActivating, activateAllows, primeReportOf, activateReportOf, imageOf}
@@ -44,7 +44,6 @@ use Rattle.rules.specs.declared.numbers.Function.{Function}
 use Rattle.rules.specs.declared.numbers.Function.the-variants as function
 use Rattle.rules.specs.declared.numbers.Decoded.{Decoded}
 use Rattle.rules.specs.declared.numbers.Decoded.the-variants.{Known, Unknown}
-use Rattle.rules.proofs.Named.{numberFor}
 use Rattle.rules.proofs.States.{Primable, Tried, Vacant, PowerFree, PrimeSays, ActivateSays, CancelSays, PowerSays, row-says, jobs, gatherable, skippable}
 use Rattle.rules.proofs.Facts.{Called, Asks, Joins, Facts}
 

@@ -4,4 +4,5 @@ pub mod States
 pub mod Named
 pub mod Facts
 pub mod Guards
+pub mod Moves
 pub mod Pinned

@@ -4,23 +4,11 @@ use mathlib.Core.Path.{_≡_, refl, ap, _∙_}
 use lib.Dec.{eqb}
 use borrow.Author.Tests.{eqb-true}
 use Rattle.basics.specs.Choice.{pick, pick-cases, never}
-use Rattle.codes.specs.Numbers.{versionNumber, featuresNumber, infoNumber, inventoryNumber, primeNumber, activateNumber, cancelNumber, offNumber, onNumber}
-use Rattle.rules.specs.Numbers.{decodeOf}
+use Rattle.rules.specs.Numbers.{numberFor, decodeOf}
 use Rattle.rules.specs.declared.numbers.Function.{Function}
 use Rattle.rules.specs.declared.numbers.Function.the-variants as function
 use Rattle.rules.specs.declared.numbers.Decoded.{Decoded}
 use Rattle.rules.specs.declared.numbers.Decoded.the-variants.{Known, Unknown}
-
-abbrev pub numberFor : Function → ℕ
-numberFor function.Version = versionNumber
-numberFor function.Features = featuresNumber
-numberFor function.GetInfo = infoNumber
-numberFor function.GetInventory = inventoryNumber
-numberFor function.Prime = primeNumber
-numberFor function.Activate = activateNumber
-numberFor function.Cancel = cancelNumber
-numberFor function.CpuOff = offNumber
-numberFor function.CpuOn = onNumber
 
 abbrev numberIn : Decoded → ℕ
 numberIn (Known f) = numberFor f

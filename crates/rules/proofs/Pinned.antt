@@ -14,4 +14,4 @@ pub minus-pinned : OneOutcome 0 minus-kinds.ps minus-kinds.r minus-reads.Post
 minus-pinned κs a z z′ ws ws′ p q = just p q
 
 pub decide-pinned : OneOutcome 0 decide-kinds.ps decide-kinds.r decide-reads.Post
-decide-pinned κs a z z′ ws ws′ p q = just p q
+decide-pinned κs a z z′ ws ws′ p q = just (p .0) (q .0)

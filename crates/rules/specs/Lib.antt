@@ -4,3 +4,4 @@ pub mod Table
 pub mod Calls
 pub mod Reports
 pub mod Decide
+pub mod Moves

@@ -7,6 +7,7 @@ mod reports;
 ghost use mathlib.Core.Path.{_≡_};
 ghost use Rattle.rules.specs.Statuses.{minusOf, numberOf};
 ghost use Rattle.rules.specs.Decide.{decideOf};
+ghost use Rattle.rules.specs.Moves.{numbersOf, Decided};
 use board_record::Record;
 use codes::Call;
 
@@ -117,6 +118,7 @@ pub fn minus(k: u64) -> u64
 // What an event calls for, where the two resume tables have so many places.
 pub fn decide(rec: Record, e: Event, entry_places: usize, context_places: usize) -> Move
     ensures { λ r. ⌜ r ≡ decideOf rec e «entry_places» «context_places» ⌝ }
+    ensures { λ r. ⌜ Decided rec e «entry_places» «context_places» (numbersOf r) ⌝ }
 {
     if board_record::is_well_formed(rec) {
         let cpus = rec.board.cpus;

@@ -1,6 +1,7 @@
 pub mod Told
 pub mod Agreed
 pub mod Taken
+pub mod Numbers
 pub mod Runs
 pub mod Turns
 pub mod OwnLog

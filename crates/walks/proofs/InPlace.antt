@@ -54,12 +54,21 @@ use Rattle.basics.proofs.Walk.{stands, beside}
 use Rattle.walks.proofs.Plain as P
 use Rattle.walks.proofs.Plain.{Plain}
 
+-- facts one beside the other, as several `ensures` are; of them the walk needs the first
+abbrev pub facts : {M : Type 1} (𝓤 : URA M) → Type 0 → List (Type 0) → SProp 𝓤
+facts 𝓤 φ [] = fact 𝓤 φ
+facts 𝓤 φ (ψ ∷ ψs) = sep 𝓤 (fact 𝓤 φ) (facts 𝓤 ψ ψs)
+
+first-fact : {M : Type 1} (𝓤 : URA M) {φ : Type 0} (ψs : List (Type 0)) → ent 𝓤 (facts 𝓤 φ ψs) (fact 𝓤 φ)
+first-fact 𝓤 {φ} [] = id⊢ 𝓤 (fact 𝓤 φ)
+first-fact 𝓤 {φ} (ψ ∷ ψs) = fst∗ 𝓤 (fact 𝓤 φ) (facts 𝓤 ψ ψs)
+
 -- a record and an answer as the fields of a struct
 abbrev pub laid : (R N : Plain) → R .field .Value → N .field .Value → R .field .row .Denot × (N .field .row .Denot × Unit {0})
 laid R N x y = (R .field .into x, (N .field .into y, tt))
 
 -- what a door is made of: the types of its record, event and answer; what the step returns, a struct of the next record and the
--- answer; and the step, with what it does by value, what it says of that (`Steps`), and what it does to the two tables
+-- answer; and the step, with what it does by value and to the two tables, and what more it says of its result
 pub record Door : Type 2 where
   pub rec : Plain
   pub event : Plain
@@ -71,10 +80,9 @@ pub record Door : Type 2 where
   pub pair-one : (x y : Pair) → laid rec answer (next x) (said x) ≡ laid rec answer (next y) (said y) → x ≡ y
   pub step : Name
   pub stepOf : rec .field .Value → event .field .Value → ℕ → ℕ → Pair
-  pub Steps : rec .field .Value → event .field .Value → ℕ → ℕ → Pair → Type 0
-  pub stepped : {h : rec .field .Value} {e : event .field .Value} {n m : ℕ} {r : Pair} → Steps h e n m r → r ≡ stepOf h e n m
   pub entriesOf : rec .field .Value → event .field .Value → List ℕ → List ℕ → List ℕ
   pub contextsOf : rec .field .Value → event .field .Value → List ℕ → List ℕ → List ℕ
+  pub more : rec .field .Value → event .field .Value → ℕ → ℕ → Pair → List (Type 0)
 
 -- what a door does: its answer n, the record z that it leaves and the last tables, by the step
 pub record Does (D : Door) (h : D .rec .field .Value) (e : D .event .field .Value) (ys₁ ys₂ : List ℕ) (n : D .answer .field .Value) (z : D .rec .field .Value) (zs₁ zs₂ : List ℕ) : Type 0 where
@@ -205,9 +213,9 @@ module _ (D : Door) where
       ghost = Unit {0};
       requires = λ _. emp 𝓤;
       ensures = λ _ r z.
-          sep 𝓤 (fact 𝓤 (D .Steps (a .0) (a .1 .0) (length (a .1 .1 .0 .now)) (length (a .1 .1 .1 .0 .now)) r))
+          sep 𝓤 (fact 𝓤 (r ≡ D .stepOf (a .0) (a .1 .0) (length (a .1 .1 .0 .now)) (length (a .1 .1 .1 .0 .now))))
           (sep 𝓤 (fact 𝓤 (z .1 .1 .0 .now ≡ D .entriesOf (a .0) (a .1 .0) (a .1 .1 .0 .now) (a .1 .1 .1 .0 .now)))
-          (fact 𝓤 (z .1 .1 .1 .0 .now ≡ D .contextsOf (a .0) (a .1 .0) (a .1 .1 .0 .now) (a .1 .1 .1 .0 .now))));
+          (facts 𝓤 (z .1 .1 .1 .0 .now ≡ D .contextsOf (a .0) (a .1 .0) (a .1 .1 .0 .now) (a .1 .1 .1 .0 .now)) (D .more (a .0) (a .1 .0) (length (a .1 .1 .0 .now)) (length (a .1 .1 .1 .0 .now)) r)));
     }
 
     -- any that follows from what the walk shows
@@ -215,10 +223,10 @@ module _ (D : Door) where
     Promised c = (κs : Lfts 3) (a : Args (ended .signature) κs) (g : c κs a .ghost) (n : N .Denot) (ws : Lasts ended κs a)
         → Does D (a .0 .now) (a .1 .0) (a .1 .1 .0 .now) (a .1 .1 .1 .0 .now) n (ws .0) (ws .1 .1 .0) (ws .1 .1 .1 .0) → ent 𝓤 (emp 𝓤) (c κs a .ensures g n (atExit ended κs a ws))
 
-    -- as one of these four facts, one beside the other, does
-    pub shown : {h : R .Denot} {e : E .Denot} {ys₁ ys₂ : List ℕ} {n : N .Denot} {z : R .Denot} {zs₁ zs₂ : List ℕ} → Does D h e ys₁ ys₂ n z zs₁ zs₂
-        → ent 𝓤 (emp 𝓤) (sep 𝓤 (fact 𝓤 (n ≡ D .said (D .stepOf h e (length ys₁) (length ys₂)))) (sep 𝓤 (fact 𝓤 (z ≡ D .next (D .stepOf h e (length ys₁) (length ys₂)))) (sep 𝓤 (fact 𝓤 (zs₁ ≡ D .entriesOf h e ys₁ ys₂)) (fact 𝓤 (zs₂ ≡ D .contextsOf h e ys₁ ys₂)))))
-    shown d = stands 𝓤 (d .answered) (stands 𝓤 (d .stored) (stands 𝓤 (d .entries) (factI 𝓤 _ (emp 𝓤) (d .contexts))))
+    -- as one of these facts does, one beside the other, and what is shown of the contexts and more
+    pub shown : {h : R .Denot} {e : E .Denot} {ys₁ ys₂ : List ℕ} {n : N .Denot} {z : R .Denot} {zs₁ zs₂ : List ℕ} {Q : SProp 𝓤} → Does D h e ys₁ ys₂ n z zs₁ zs₂ → ent 𝓤 (emp 𝓤) Q
+        → ent 𝓤 (emp 𝓤) (sep 𝓤 (fact 𝓤 (n ≡ D .said (D .stepOf h e (length ys₁) (length ys₂)))) (sep 𝓤 (fact 𝓤 (z ≡ D .next (D .stepOf h e (length ys₁) (length ys₂)))) (sep 𝓤 (fact 𝓤 (zs₁ ≡ D .entriesOf h e ys₁ ys₂)) Q)))
+    shown d q = stands 𝓤 (d .answered) (stands 𝓤 (d .stored) (stands 𝓤 (d .entries) q))
 
   module _ {M : Type 1} (𝓤 : URA M) (H : Heap 𝓤) (A : Atoms 𝓤) where
     abbrev pub Step : Contract 𝓤
@@ -297,8 +305,8 @@ module _ (D : Door) where
               move ! (27 ∷ 28 ∷ 29 ∷ []) $ use3 W (raw (Step .pre to-step)) (goes-step is-h) $
               calls-at ! fm Step known to-step (and-then ! (load ! (from ! (stop !)) (look ! 14 refl)) (and-then ! (load ! (from ! (stop !)) (look ! 22 refl)) (and-then ! (load ! (from ! (stop !)) (look ! 10 refl)) (and-then ! (load ! (from ! (stop !)) (look ! 6 refl)) (no-more !))))) (λ v.
               use1 W (later (some (λ (r : D .Pair). ((‵ (flft κ₁ q₁) ⊛ (‵ (flft κ₂ q₂) ⊛ ‵ ftrue)) ⊛ ‵ (S .own r (v ∷ []))) ⊛ raw (ensured 𝓤 H A stepping (steps 𝓤) (κ₁, (κ₂, tt)) (h, (e, (x₁, (x₂, tt)))) tt r)))) (id⊢ 𝓤 _) $ await ! tt $ pick ! (λ r.
-              split ! $ move ! (1 ∷ []) $ use1 W (some (λ (zs : Unit {0} × (Unit {0} × (List ℕ × (List ℕ × Unit {0})))). ‵ (lasts stepping (κ₁, (κ₂, tt)) (h, (e, (x₁, (x₂, tt)))) zs) ⊛ raw (fact 𝓤 (D .Steps h e (length (x₁ .now)) (length (x₂ .now)) r)) ⊛ raw (fact 𝓤 ((zs .1 .1 .0) ≡ D .entriesOf h e (x₁ .now) (x₂ .now))) ⊛ raw (fact 𝓤 ((zs .1 .1 .1 .0) ≡ D .contextsOf h e (x₁ .now) (x₂ .now))))) (id⊢ 𝓤 _) $ pick ! (λ zs.
-              split ! $ move ! (1 ∷ []) $ split ! $ heard ! (D .Steps h e (length (x₁ .now)) (length (x₂ .now)) r) (λ t. split ! $ heard ! ((zs .1 .1 .0) ≡ D .entriesOf h e (x₁ .now) (x₂ .now)) (λ t₁. heard ! ((zs .1 .1 .1 .0) ≡ D .contextsOf h e (x₁ .now) (x₂ .now)) (λ t₂.
+              split ! $ move ! (1 ∷ []) $ use1 W (some (λ (zs : Unit {0} × (Unit {0} × (List ℕ × (List ℕ × Unit {0})))). ‵ (lasts stepping (κ₁, (κ₂, tt)) (h, (e, (x₁, (x₂, tt)))) zs) ⊛ raw (fact 𝓤 (r ≡ D .stepOf h e (length (x₁ .now)) (length (x₂ .now)))) ⊛ raw (fact 𝓤 ((zs .1 .1 .0) ≡ D .entriesOf h e (x₁ .now) (x₂ .now))) ⊛ raw (facts 𝓤 ((zs .1 .1 .1 .0) ≡ D .contextsOf h e (x₁ .now) (x₂ .now)) (D .more h e (length (x₁ .now)) (length (x₂ .now)) r)))) (id⊢ 𝓤 _) $ pick ! (λ zs.
+              split ! $ move ! (1 ∷ []) $ split ! $ heard ! (r ≡ D .stepOf h e (length (x₁ .now)) (length (x₂ .now))) (λ t. split ! $ heard ! ((zs .1 .1 .0) ≡ D .entriesOf h e (x₁ .now) (x₂ .now)) (λ t₁. use1 W (raw (fact 𝓤 ((zs .1 .1 .1 .0) ≡ D .contextsOf h e (x₁ .now) (x₂ .now)))) (first-fact 𝓤 (D .more h e (length (x₁ .now)) (length (x₂ .now)) r)) $ heard ! ((zs .1 .1 .1 .0) ≡ D .contextsOf h e (x₁ .now) (x₂ .now)) (λ t₂.
               fsplit ! $ drop ! $ fsplit ! $ drop ! $ fsplit ! $ fsplit ! $ move ! (1 ∷ []) $ feqL ! (λ m₁. move ! (1 ∷ []) $ fsplit ! $ fsplit ! $ move ! (1 ∷ []) $ feqL ! (λ m₂. move ! (1 ∷ []) $ move ! (2 ∷ 1 ∷ []) $
               move ! (3 ∷ []) $ split ! $ move ! (1 ∷ []) $ peeks ! S (Is S) (shows 𝓤 H A S) r (v ∷ []) (λ is.
               land ! (from ! (stop !)) (init ! 20 refl (pair-typed r v is)) $ drop ! $ move ! (4 ∷ 5 ∷ 6 ∷ 7 ∷ 8 ∷ []) $
@@ -309,7 +317,7 @@ module _ (D : Door) where
               move ! (1 ∷ []) $ drop ! $ owned ! R (Is R) (P.makes (D .rec) 𝓤 H A) (D .next r) _ (parts r v is .0) $ move ! (1 ∷ 0 ∷ []) $ closes ! tt R (D .next r) (rec-val (D .next r) ∷ []) b o $
               returns ! (look ! 27 refl) $ forget ! 7 refl $ forget ! 9 refl $ forget ! 11 refl $ forget ! 13 refl $ forget ! 15 refl $ forget ! 17 refl $ forget ! 19 refl $ forget ! 21 refl $ forget ! 23 refl $ forget ! 25 refl $ forget ! 27 refl $
               move ! (27 ∷ 28 ∷ []) $ free1 ! $ move ! (25 ∷ 26 ∷ []) $ free1 ! $ move ! (23 ∷ 24 ∷ []) $ free1 ! $ move ! (21 ∷ 22 ∷ []) $ free1 ! $ move ! (19 ∷ 20 ∷ []) $ free1 ! $ move ! (17 ∷ 18 ∷ []) $ free1 ! $ move ! (15 ∷ 16 ∷ []) $ free1 ! $ move ! (13 ∷ 14 ∷ []) $ free1 ! $ move ! (11 ∷ 12 ∷ []) $ free1 ! $ move ! (9 ∷ 10 ∷ []) $ free1 ! $ move ! (7 ∷ 8 ∷ []) $ free1 ! $ free0 ! $
-              keep ! (0 ∷ 1 ∷ 2 ∷ 3 ∷ 4 ∷ 5 ∷ []) $ by ! (exits r (zs .1 .1 .0) (zs .1 .1 .1 .0) (record { answered = ap (D .said) (D .stepped t); stored = ap (D .next) (D .stepped t); entries = t₁; contexts = t₂ }) m₁ m₂ (parts r v is .1))))))))))))))))))))))))
+              keep ! (0 ∷ 1 ∷ 2 ∷ 3 ∷ 4 ∷ 5 ∷ []) $ by ! (exits r (zs .1 .1 .0) (zs .1 .1 .1 .0) (record { answered = ap (D .said) t; stored = ap (D .next) t; entries = t₁; contexts = t₂ }) m₁ m₂ (parts r v is .1))))))))))))))))))))))))
 
       goes : AllGo 𝓤 H A W 3 (ended .signature .params) (ended .kept) stayed
       goes = (goes-ref 𝓤 H A W 3 0 tt (plain (λ _. R)), (goes-none 𝓤 H A W 3 (λ _. E) yes (λ κs x f. refl), (goes-gave-slice 𝓤 H A W 3 1 tt (plain (λ _. u64)), (goes-gave-slice 𝓤 H A W 3 2 tt (plain (λ _. u64)), tt))))

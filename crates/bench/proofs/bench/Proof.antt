@@ -20,13 +20,13 @@ lines-requires : tie.Need-lines-requires
 lines-requires c κs =
     let n = c .before in
     let k = n .before .before in
-    (ap (λ (r : ReadBoard). r .board) (k .before .before .before .before .read-board .ensures .0), sym (k .check-log .ensures) ∙ n .n .given .1)
+    (ap (λ (r : ReadBoard). r .board) (k .before .before .before .before .read-board .ensures .0), sym (k .check-log .ensures .0) ∙ n .n .given .1)
 
 enum-known-f : tie.Need-enum-known-f
 enum-known-f c = search needs
 
 log-refused-requires : tie.Need-log-refused-requires
-log-refused-requires c κs = let f = c .before in sym (f .before .before .check-log .ensures) ∙ f .f .given .1
+log-refused-requires c κs = let f = c .before in sym (f .before .before .check-log .ensures .0) ∙ f .f .given .1
 
 enum-known-verdict : tie.Need-enum-known-verdict
 enum-known-verdict c = search needs

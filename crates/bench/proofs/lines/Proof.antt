@@ -45,7 +45,7 @@ turn : (c : tie.After-turned Inv-loop μ-loop)
     → let l = c .before .before .before in let a = l .before .before .before .before .before .before .before in c .turned .result ≡ turnAt (a .args .b) (a .args .log .now) (l .loop .k)
 turn c =
     let i = c .before .before .before .loop .inv .1 in
-    turned-at _ _ _ _ _ _ _ (i .0) (i .1) (c .before .said-at .ensures) (c .turned .ensures)
+    turned-at _ _ _ _ _ _ _ (i .0) (i .1) (c .before .said-at .ensures) (c .turned .ensures .0)
 
 line-requires : tie.Need-line-requires Inv-loop μ-loop
 line-requires c κs = turn c

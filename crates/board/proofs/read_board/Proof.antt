@@ -4,6 +4,7 @@ use Rattle.bitfield.specs.Bits.{AreBytes}
 use Rattle.board.specs.Packed.{boardAt}
 use Rattle.board.proofs.Laws.{components-most, shape-accepted, read-shaped, read-unshaped}
 use Rattle.board.proofs.Round.{read-back}
+use Rattle.board.proofs.Numbers.{read-given}
 use borrow.Author.Needs.{needs}
 use Rattle.board.proofs.read_board.Statement.{statement}
 use Rattle.board.proofs.read_board.Tie as tie
@@ -38,13 +39,13 @@ returns : tie.Need-returns
 returns c =
     let p = c .before .before .before .before .before in
     let e = c .settled .ensures ∙ read-shaped _ _ _ (sym (p .shape .ensures) ∙ c .before .before .before .enum-told .given .1) (c .before .before .board-at .ensures) (c .before .judged .ensures) in
-    (e, read-back _ _ (known (p .before)) e)
+    (e, (read-back _ _ (known (p .before)) e, read-given _ _ e))
 
 returns-2 : tie.Need-returns-2
 returns-2 c =
     let p = c .before .before .before .before in
     let e = c .refused .ensures ∙ read-unshaped _ _ (sym (p .shape .ensures) ∙ c .before .before .x .given .1) in
-    (e, read-back _ _ (known (p .before)) e)
+    (e, (read-back _ _ (known (p .before)) e, read-given _ _ e))
 
 pub read-board-spec : {M : Type 1} → statement M
 read-board-spec =

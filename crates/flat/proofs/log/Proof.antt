@@ -20,7 +20,7 @@ unfolding writtenOf bufferOf
 returns c =
     let p = c .before .before .before in
     let l = p .before .logged .ensures in
-    (rw (c .written .ensures, p .put-record .ensures .0, l), rw (p .put-record .ensures .1, l))
+    (rw (c .written .ensures, p .put-record .ensures .0, l), rw (p .put-record .ensures .1 .0, l))
 
 pub log-spec : {M : Type 1} → statement M
 log-spec = tie.close (tie.spec logged-requires put-record-requires written-requires same-length returns)

@@ -11,7 +11,7 @@ prepared-requires c κs = search needs
 
 returns : tie.Need-returns
 unfolding preparedIn
-returns c = rw (c .prepared .ensures, c .before .prepared-at .ensures)
+returns c = rw (c .prepared .ensures, c .before .prepared-at .ensures .0)
 
 pub prepared-spec : {M : Type 1} → statement M
 prepared-spec = tie.close (tie.spec prepared-at-requires prepared-requires returns)

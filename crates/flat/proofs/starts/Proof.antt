@@ -11,7 +11,7 @@ started-requires c κs = search needs
 
 returns : tie.Need-returns
 unfolding startedIn
-returns c = rw (c .started .ensures, c .before .starts-at .ensures)
+returns c = rw (c .started .ensures, c .before .starts-at .ensures .0)
 
 pub starts-spec : {M : Type 1} → statement M
 starts-spec = tie.close (tie.spec starts-at-requires started-requires returns)

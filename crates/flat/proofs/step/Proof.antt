@@ -90,7 +90,7 @@ returns c =
     let r = v .before in
     let i = r .before in
     in-turn _ _ _ _ _ (by (i .before .is-flat .ensures) (i .if1 .taken)) _ (r .«record» .ensures) _ (sym (v .event .ensures) ∙ k .event2 .given .1) _ _ _
-    (s .step .ensures .0) (s .step .ensures .1 .0) (s .step .ensures .1 .1) (c .stepped .ensures)
+    (s .step .ensures .0) (s .step .ensures .1 .0) (s .step .ensures .1 .1 .0) (c .stepped .ensures)
 
 returns-2 : tie.Need-returns-2
 returns-2 c =

@@ -1,6 +1,9 @@
 -- `lfa_step` meets its contract: it is a door over `flat::step`, by the walk of crates/walks. That what the walk shows is what is
 -- promised is `shown`. Assumes nothing.
-use mathlib.Core.Path.{_≡_, refl}
+use mathlib.Core.Path.{refl}
+use mathlib.Core.List.{[], _∷_}
+use base.Logic.{emp}
+use contract.Monad.{factI}
 use Rattle.walks.proofs.InPlace.{Door, shown, in-place}
 use Rattle.flat.specs.Calls.{stepOf, entriesOf, contextsOf}
 use Rattle.flat.specs.declared.FlatStepped.{FlatStepped}
@@ -30,13 +33,12 @@ the-door = record {
   pair-one = Pair.the-type .to-one;
   step = step.name;
   stepOf = stepOf;
-  Steps = λ h e n m r. r ≡ stepOf h e n m;
-  stepped = λ t. t;
   entriesOf = entriesOf;
   contextsOf = contextsOf;
+  more = λ h e n m r. [];
 }
 
 pub lfa-step-spec : {M : Type 1} → stated.statement M
 unfolding code.routine
-lfa-step-spec 𝓤 H 𝓜 𝓖 𝓡 = in-place the-door 𝓤 H 𝓜 𝓖 𝓡 (lfa-step.clauses 𝓤 H (𝓖 .A) (𝓜 .mem) (𝓡 .run)) (λ κs a g n ws does. shown the-door 𝓤 does)
+lfa-step-spec 𝓤 H 𝓜 𝓖 𝓡 = in-place the-door 𝓤 H 𝓜 𝓖 𝓡 (lfa-step.clauses 𝓤 H (𝓖 .A) (𝓜 .mem) (𝓡 .run)) (λ κs a g n ws does. shown the-door 𝓤 does (factI 𝓤 _ (emp 𝓤) (does .contexts)))
     code.env #monitor·lfa-step (code.unfolded 𝓤 H 𝓜 𝓡) step.routine code.calls-flat·step (step-thm.met 𝓤 H 𝓜 𝓖 𝓡)

@@ -16,13 +16,13 @@ text-requires : tie.Need-text-requires
 text-requires c κs = search needs
 
 lines-requires : tie.Need-lines-requires
-lines-requires c κs = let n = c .before .before .before in sym (n .before .before .check-log .ensures) ∙ n .n .given .1
+lines-requires c κs = let n = c .before .before .before in sym (n .before .before .check-log .ensures .0) ∙ n .n .given .1
 
 enum-known-f : tie.Need-enum-known-f
 enum-known-f c = search needs
 
 refused-requires : tie.Need-refused-requires
-refused-requires c κs = let f = c .before in sym (f .before .before .check-log .ensures) ∙ f .f .given .1
+refused-requires c κs = let f = c .before in sym (f .before .before .check-log .ensures .0) ∙ f .f .given .1
 
 returns : tie.Need-returns
 returns c = search needs

@@ -1,8 +1,10 @@
 use mathlib.Core.Path.{_≡_, refl}
 use borrow.Author.Tests.{le-ltb, lt-ltb}
-use Rattle.basics.specs.Choice.{by, no, yes}
+use Rattle.basics.specs.Choice.{by, no, yes, and-so}
 use Rattle.rules.specs.Decide.{eventOf, decideOf}
+use Rattle.rules.specs.Moves.{numbersOf, Decided}
 use Rattle.rules.specs.declared.Move.{Move}
+use Rattle.rules.proofs.Moves.{decided}
 use borrow.Author.Needs.{needs}
 use Rattle.rules.proofs.decide.Statement.{statement}
 use Rattle.rules.proofs.decide.Tie as tie
@@ -12,23 +14,28 @@ is-well-formed-requires c κs = search needs
 
 returns : tie.Need-returns
 unfolding decideOf
-returns c = yes _ (by (c .before .before .is-well-formed .ensures) (c .before .if1 .taken)) (yes _ (lt-ltb _ _ (c .if2 .taken)) refl)
+returns c =
+    and-so (decided _ _ _ _)
+    (yes _ (by (c .before .before .is-well-formed .ensures) (c .before .if1 .taken)) (yes _ (lt-ltb _ _ (c .if2 .taken)) refl))
 
 returns-2 : tie.Need-returns-2
 unfolding decideOf
 returns-2 c =
     let first = c .before .before in
-    yes _ (by (first .before .is-well-formed .ensures) (first .if1 .taken))
+    and-so (decided _ _ _ _)
+    (yes _ (by (first .before .is-well-formed .ensures) (first .if1 .taken))
     (no _ (le-ltb _ _ (c .before .if2 .left))
-    (yes _ (lt-ltb _ _ (c .if3 .taken)) refl))
+    (yes _ (lt-ltb _ _ (c .if3 .taken)) refl)))
 
 -- the record is well formed, and both tables are long enough
-stands : (c : tie.Else3) → let a = c .before .before .before .before .args in (z : Move) → z ≡ eventOf (a .rec) (a .e) → z ≡ decideOf (a .rec) (a .e) (a .entry-places) (a .context-places)
+stands : (c : tie.Else3) → let a = c .before .before .before .before .args in (z : Move) → z ≡ eventOf (a .rec) (a .e)
+    → (z ≡ decideOf (a .rec) (a .e) (a .entry-places) (a .context-places)) × Decided (a .rec) (a .e) (a .entry-places) (a .context-places) (numbersOf z)
 unfolding decideOf
 stands c z p =
-    yes _ (by (c .before .before .before .is-well-formed .ensures) (c .before .before .if1 .taken))
+    and-so (decided _ _ _ _)
+    (yes _ (by (c .before .before .before .is-well-formed .ensures) (c .before .before .if1 .taken))
     (no _ (le-ltb _ _ (c .before .if2 .left))
-    (no _ (le-ltb _ _ (c .if3 .left)) p))
+    (no _ (le-ltb _ _ (c .if3 .left)) p)))
 
 enum-known-e : tie.Need-enum-known-e
 enum-known-e c = search needs
@@ -68,7 +75,7 @@ returns-6 c = stands (c .before .before .before .before) _ (rw (c .before .befor
 
 returns-7 : tie.Need-returns-7
 unfolding decideOf
-returns-7 c = no _ (by (c .before .is-well-formed .ensures) (c .if1 .left)) refl
+returns-7 c = and-so (decided _ _ _ _) (no _ (by (c .before .is-well-formed .ensures) (c .if1 .left)) refl)
 
 pub decide-spec : {M : Type 1} → statement M
 decide-spec =

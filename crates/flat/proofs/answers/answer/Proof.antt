@@ -1,4 +1,5 @@
-use Rattle.flat.specs.Answers.{acceptedAnswer}
+use Rattle.agent.specs.Numbers.{acceptedWith}
+use Rattle.flat.specs.Answers.{answerBy}
 use borrow.Author.Needs.{needs}
 use Rattle.flat.proofs.answers.answer.Statement.{statement}
 use Rattle.flat.proofs.answers.answer.Tie as tie
@@ -15,8 +16,8 @@ refused-answer-requires c κs = search needs
 enum-known-o-2 : tie.Need-enum-known-o-2
 enum-known-o-2 c = search needs
 
-outcome-requires : tie.Need-outcome-requires
-outcome-requires c κs = search needs
+caller-number-requires : tie.Need-caller-number-requires
+caller-number-requires c κs = search needs
 
 returned-requires : tie.Need-returned-requires
 returned-requires c κs = search needs
@@ -24,19 +25,19 @@ returned-requires c κs = search needs
 release-number-requires : tie.Need-release-number-requires
 release-number-requires c κs = search needs
 
-freed-requires : tie.Need-freed-requires
-freed-requires c κs = search needs
+freed-by-requires : tie.Need-freed-by-requires
+freed-by-requires c κs = search needs
 
 returns : tie.Need-returns
 returns c = rw (c .before .before .before .o .given .1, c .refused-answer .ensures, c .before .number .ensures)
 
 returns-2 : tie.Need-returns-2
-unfolding acceptedAnswer
+unfolding answerBy acceptedWith
 returns-2 c =
     let n = c .before in
     let t = n .before in
     let o = t .before in
-    rw (o .before .before .o2 .given .1, c .freed .ensures, n .release-number .ensures, t .returned .ensures, o .outcome .ensures)
+    rw (o .before .before .o2 .given .1, c .freed-by .ensures, n .release-number .ensures, t .returned .ensures, o .caller-number .ensures)
 
 pub answer-spec : {M : Type 1} → statement M
 answer-spec =
@@ -46,9 +47,9 @@ answer-spec =
     number-requires
     refused-answer-requires
     enum-known-o-2
-    outcome-requires
+    caller-number-requires
     returned-requires
     release-number-requires
-    freed-requires
+    freed-by-requires
     returns
     returns-2)

@@ -1,3 +1,5 @@
+use Rattle.logbook.specs.Numbers.{foundWith, refusedWith}
+use Rattle.flat.specs.Answers.{preparedWith}
 use borrow.Author.Needs.{needs}
 use Rattle.flat.proofs.answers.prepared.Statement.{statement}
 use Rattle.flat.proofs.answers.prepared.Tie as tie
@@ -18,9 +20,11 @@ not-found-requires : tie.Need-not-found-requires
 not-found-requires c κs = search needs
 
 returns : tie.Need-returns
+unfolding preparedWith foundWith
 returns c = rw (c .before .before .a .given .1, c .primed .ensures)
 
 returns-2 : tie.Need-returns-2
+unfolding preparedWith refusedWith
 returns-2 c = rw (c .before .before .before .a2 .given .1, c .not-found .ensures, c .before .number .ensures)
 
 pub prepared-spec : {M : Type 1} → statement M

@@ -1,3 +1,5 @@
+use Rattle.reader.specs.Numbers.{foundWith}
+use Rattle.flat.specs.Answers.{startedWith}
 use borrow.Author.Needs.{needs}
 use Rattle.flat.proofs.answers.started.Statement.{statement}
 use Rattle.flat.proofs.answers.started.Tie as tie
@@ -24,6 +26,7 @@ log-refused-requires : tie.Need-log-refused-requires
 log-refused-requires c κs = search needs
 
 returns : tie.Need-returns
+unfolding startedWith foundWith
 returns c = rw (c .before .before .a .given .1, c .begun .ensures)
 
 returns-2 : tie.Need-returns-2

@@ -1,6 +1,6 @@
 use borrow.Author.Needs.{needs}
-use Rattle.flat.proofs.answers.freed.Statement.{statement}
-use Rattle.flat.proofs.answers.freed.Tie as tie
+use Rattle.agent.proofs.freed_by.Statement.{statement}
+use Rattle.agent.proofs.freed_by.Tie as tie
 
 enum-told : tie.Need-enum-told
 enum-told c = search needs
@@ -23,7 +23,7 @@ returns-2 c = search needs
 returns-3 : tie.Need-returns-3
 returns-3 c = rw (c .before .l2 .given .1)
 
-pub freed-spec : {M : Type 1} → statement M
-freed-spec =
+pub freed-by-spec : {M : Type 1} → statement M
+freed-by-spec =
     tie.close
     (tie.spec enum-told none-requires enum-known-l enum-known-l-2 returns returns-2 returns-3)

@@ -1,0 +1,110 @@
+-- An answer in document 01's numbers ("Events and what they answer"; the outcomes: "Packed forms"). Assumes nothing.
+use Prim.Native.Nat.{ℕ}
+use mathlib.Core.Path.{_≡_}
+use mathlib.Core.Bool.{Bool, true, _&&_}
+use lib.Dec.{eqb}
+use Rattle.basics.specs.Every.{oneOf}
+use Rattle.basics.specs.First.{firstOf}
+use Rattle.codes.specs.Outcomes.{returned, held, primeStarted, activationStarted, gone, callOutcomes}
+use Rattle.cpuset.specs.Set.{noneOf}
+use Rattle.cpuset.specs.declared.CpuSet.{CpuSet}
+use Rattle.board_record.specs.declared.Record.{Record}
+use Rattle.rules.specs.Statuses.{numberOf}
+use Rattle.rules.specs.Moves.{primeStatus, activateStatus, eventRows}
+use Rattle.rules.specs.declared.Event.{Event}
+use Rattle.rules.specs.declared.Event.the-variants as event
+use Rattle.rules.specs.declared.Registers.{Registers}
+use Rattle.agent.specs.declared.Answer.{Answer}
+use Rattle.agent.specs.declared.Caller.{Caller}
+use Rattle.agent.specs.declared.Caller.the-variants as caller
+use Rattle.agent.specs.declared.Freed.{Freed}
+use Rattle.agent.specs.declared.Outcome.{Outcome}
+use Rattle.agent.specs.declared.Outcome.the-variants.{Refused, Accepted}
+use Rattle.agent.specs.declared.Release.{Release}
+use Rattle.agent.specs.declared.Release.the-variants as release
+
+-- ---- "Caller's part: returned with X0 to X3 .., held, prime started, activation started, gone; reports and images have none": as
+-- the log numbers outcomes, and 0 where there is none
+abbrev pub outcomeOf : Caller → ℕ
+outcomeOf caller.Nothing = 0
+outcomeOf (caller.Returned x) = returned
+outcomeOf caller.Held = held
+outcomeOf caller.PrimeStarted = primeStarted
+outcomeOf caller.ActivationStarted = activationStarted
+outcomeOf caller.Gone = gone
+
+-- "X0 to X3 (unnamed ones are 0)"
+abbrev pub noRegisters : Registers
+noRegisters = record { x0 = 0; x1 = 0; x2 = 0; x3 = 0 }
+
+abbrev pub returnedOf : Caller → Registers
+returnedOf caller.Nothing = noRegisters
+returnedOf (caller.Returned x) = x
+returnedOf caller.Held = noRegisters
+returnedOf caller.PrimeStarted = noRegisters
+returnedOf caller.ActivationStarted = noRegisters
+returnedOf caller.Gone = noRegisters
+
+-- ---- "Release part: nobody, a set of CPUs with one X0 and X1, or a set that resumes by entry address": in that order from 0
+abbrev pub nobody : ℕ
+nobody = 0
+
+abbrev pub withStatus : ℕ
+withStatus = 1
+
+abbrev pub byEntry : ℕ
+byEntry = 2
+
+abbrev pub releaseNumber : Release → ℕ
+releaseNumber release.Nobody = nobody
+releaseNumber (release.Returned f) = withStatus
+releaseNumber (release.Resumed cpus) = byEntry
+
+-- the set, with X0 and X1; those that resume by entry are given neither
+abbrev pub freedWith : CpuSet → Freed
+freedWith s = record { cpus = s; x0 = 0; x1 = 0 }
+
+abbrev pub freedBy : Release → Freed
+freedBy release.Nobody = freedWith noneOf
+freedBy (release.Returned f) = f
+freedBy (release.Resumed s) = freedWith s
+
+-- ---- "Besides a possible refusal, an answer has a caller's part and a release part"
+pub record Said : Type 0 where
+  pub refusal : ℕ
+  pub caller : ℕ
+  pub returned : Registers
+  pub release : ℕ
+  pub freed : Freed
+
+-- a refusal "comes with nothing else"
+unfoldable pub refusedWith : ℕ → Said
+refusedWith n = record { refusal = n; caller = 0; returned = noRegisters; release = nobody; freed = freedWith noneOf }
+
+unfoldable pub acceptedWith : Answer → Said
+acceptedWith a = record {
+  refusal = 0;
+  caller = outcomeOf (a .caller);
+  returned = returnedOf (a .caller);
+  release = releaseNumber (a .release);
+  freed = freedBy (a .release);
+}
+
+abbrev pub saidOf : Outcome → Said
+saidOf (Refused x) = refusedWith (numberOf x)
+saidOf (Accepted a) = acceptedWith a
+
+-- ---- what is promised of it
+
+-- "Calls have outcomes 1 to 5", "reports and images have none"; a report gives the status that it says
+abbrev pub isSaid : Event → Said → Bool
+isSaid (event.Call call) s = oneOf (s .caller) callOutcomes
+isSaid (event.Prime p) s = eqb (s .caller) 0 && eqb (s .freed .x0) (primeStatus (p .code))
+isSaid (event.Activate p) s = eqb (s .caller) 0 && eqb (s .freed .x0) (activateStatus (p .code))
+isSaid (event.Image i) s = eqb (s .caller) 0
+
+-- "The first that applies .. is given. It comes with nothing else"; 0 is no refusal, and then there are the parts
+pub record Answers (r : Record) (e : Event) (entries contexts : ℕ) (s : Said) : Type 0 where
+  pub refusal : s .refusal ≡ firstOf (eventRows r e entries contexts)
+  pub nothing : (s .refusal ≡ 0 → ⊥) → s ≡ refusedWith (s .refusal)
+  pub parts : s .refusal ≡ 0 → isSaid e s ≡ true

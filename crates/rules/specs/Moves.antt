@@ -1,0 +1,92 @@
+-- A move in document 01's numbers, and which refusal an event is given ("Events and what they answer"; the outcomes: "Packed
+-- forms"). Assumes nothing.
+use Prim.Native.Nat.{ℕ}
+use mathlib.Core.Path.{_≡_}
+use mathlib.Core.Bool.{Bool, true, not, _&&_, _||_}
+use mathlib.Core.List.{List, [], _∷_}
+use lib.Dec.{eqb, leb, ltb}
+use Rattle.basics.specs.Choice.{pick}
+use Rattle.basics.specs.Every.{oneOf}
+use Rattle.basics.specs.First.{Row, firstOf}
+use Rattle.codes.specs.Codes.{byReset, isPrimeCode}
+use Rattle.codes.specs.Outcomes.{returned, held, primeStarted, activationStarted, gone, released, noted, callOutcomes}
+use Rattle.cpuset.specs.Set.{hasOf}
+use Rattle.board.specs.Description.{isCapable, mayReset}
+use Rattle.board_record.specs.Record.{isFor, isAlone}
+use Rattle.board_record.specs.WellFormed.{wellFormed}
+use Rattle.board_record.specs.declared.Record.{Record}
+use Rattle.rules.specs.Statuses.{minusOf, numberOf}
+use Rattle.rules.specs.Reports.{isPriming, isActivating, activateAllows}
+use Rattle.rules.specs.declared.Event.{Event}
+use Rattle.rules.specs.declared.Event.the-variants as event
+use Rattle.rules.specs.declared.Move.{Move}
+use Rattle.rules.specs.declared.Move.the-variants.{Refuse, Return, NoteInfo, StartPrime, Gather, StartTogether, StartAlone, ToIdle, PowerOff, PowerOn, EndPrime, EndActivate, NoteImage}
+
+-- ---- the number of its refusal, 0 where it is none; the outcome that its event has in the log, 0 for a refusal; and word 6,
+-- "X0 given for outcomes 1 and 6. All else 0"
+pub record Numbers : Type 0 where
+  pub refusal : ℕ
+  pub outcome : ℕ
+  pub given : ℕ
+
+-- a refusal "comes with nothing else"
+unfoldable pub refusedWith : ℕ → Numbers
+refusedWith n = record { refusal = n; outcome = 0; given = 0 }
+
+unfoldable pub toldAs : ℕ → ℕ → Numbers
+toldAs outcome given = record { refusal = 0; outcome = outcome; given = given }
+
+-- "The held CPUs are released with that status .., or with X0 = 0 .. for code 1"; of code 12 "word 6 of its record is 0"
+unfoldable pub primeStatus : ℕ → ℕ
+primeStatus code = pick (eqb code 1) 0 (minusOf code)
+
+unfoldable pub activateStatus : ℕ → ℕ
+activateStatus code = pick (eqb code byReset) 0 (primeStatus code)
+
+abbrev pub numbersOf : Move → Numbers
+numbersOf (Refuse x) = refusedWith (numberOf x)
+numbersOf (Return x) = toldAs returned (x .x0)
+numbersOf NoteInfo = toldAs returned 0
+numbersOf (StartPrime a) = toldAs primeStarted 0
+numbersOf (Gather a) = toldAs held 0
+numbersOf (StartTogether a) = toldAs activationStarted 0
+numbersOf (StartAlone a) = toldAs activationStarted 0
+numbersOf ToIdle = toldAs returned 0
+numbersOf (PowerOff cpu) = toldAs gone 0
+numbersOf (PowerOn w) = toldAs returned 0
+numbersOf (EndPrime p) = toldAs released (primeStatus (p .code))
+numbersOf (EndActivate p) = toldAs released (activateStatus (p .code))
+numbersOf (NoteImage i) = toldAs noted 0
+
+-- ---- | No. | Given exactly when |
+
+-- | 2, 3, 4 | call: no such CPU; CPU off; CPU held |, | 5, 6 | report: no job of that kind running for that component; code not
+-- allowed for it |, | 7, 8 | image: no such or not capable component; it is the state's component |
+abbrev pub rowsFor : Record → Event → List Row
+rowsFor r (event.Call call) = (2, leb (r .board .cpus) (call .cpu)) ∷ (3, not (hasOf (r .on) (call .cpu))) ∷ (4, hasOf (r .held) (call .cpu)) ∷ []
+rowsFor r (event.Prime p) = (5, not (isPriming (r .state) (p .component))) ∷ (6, not (isPrimeCode (p .code))) ∷ []
+rowsFor r (event.Activate p) =
+    (5, not (isActivating (r .state) (p .component)))
+    ∷ (6, not (activateAllows (isAlone (r .state)) (mayReset (r .board) (p .component)) (p .code)))
+    ∷ []
+rowsFor r (event.Image i) = (7, not (isCapable (r .board) (i .component))) ∷ (8, isFor (r .state) (i .component)) ∷ []
+
+-- | 9 | record not well formed |, | 1 | a resume table is shorter than the CPU count |
+abbrev pub eventRows : Record → Event → ℕ → ℕ → List Row
+eventRows r e entries contexts =
+    (9, not (wellFormed r)) ∷ (1, ltb entries (r .board .cpus) || ltb contexts (r .board .cpus)) ∷ rowsFor r e
+
+-- ---- what is accepted
+
+-- "Calls have outcomes 1 to 5, reports 6, images 7"; a report gives its status
+abbrev pub isTold : Event → Numbers → Bool
+isTold (event.Call call) m = oneOf (m .outcome) callOutcomes
+isTold (event.Prime p) m = eqb (m .outcome) released && eqb (m .given) (primeStatus (p .code))
+isTold (event.Activate p) m = eqb (m .outcome) released && eqb (m .given) (activateStatus (p .code))
+isTold (event.Image i) m = eqb (m .outcome) noted && eqb (m .given) 0
+
+-- what an event calls for: "The first that applies .. is given", and nothing else, or it is told
+pub record Decided (r : Record) (e : Event) (entries contexts : ℕ) (m : Numbers) : Type 0 where
+  pub refusal : m .refusal ≡ firstOf (eventRows r e entries contexts)
+  pub nothing : (m .refusal ≡ 0 → ⊥) → m ≡ refusedWith (m .refusal)
+  pub told : m .refusal ≡ 0 → isTold e m ≡ true
