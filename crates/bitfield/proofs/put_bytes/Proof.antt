@@ -1,9 +1,10 @@
 use Rattle.bitfield.proofs.Laws.{put-paste}
 use borrow.Author.Needs.{needs}
 use native.Mathlib.Omega.{arith}
-use mathlib.Core.Path.{_≡_, refl}
-use Prim.Native.Nat.{_-_, _≤_}
-use lib.ListN.{length, length-set}
+use mathlib.Core.Path.{_≡_, refl, sym}
+use mathlib.Core.List.{List}
+use Prim.Native.Nat.{ℕ, _+_, _-_, _<_, _≤_}
+use lib.ListN.{length, getD, set, length-set}
 use lib.Seq.{paste, paste-zero, paste-suc}
 use native.Mathlib.Numerals.{add-one}
 use Rattle.bitfield.specs.Bits.{bytes}
@@ -47,14 +48,18 @@ add-i c = omega arith
 loop-less : tie.Need-loop-less Inv-loop μ-loop
 loop-less c = omega arith
 
+-- one byte more, where what is stored is the next one
+one-more : (s t : List ℕ) (k n v i x : ℕ) → k + n ≤ length s → i < n → t ≡ paste s k (bytes n v) i → x ≡ getD (bytes n v) i 0 → set t (k + i) x ≡ paste s k (bytes n v) (i + 1)
+one-more s t k n v i x room l p q =
+    let e = length-bytes n v in rw (p, q, add-one) (paste-suc s k (bytes n v) i 0 (omega arith) (omega arith))
+
 loop-again : tie.Need-loop-again Inv-loop μ-loop
 loop-again c =
     let l = c .before .loop in
-    let a = c .before .before .args in
-    let e = length-bytes (a .n) (a .v) in (
+    let a = c .before .before .args in (
       omega arith,
       (
-        rw (l .inv .1 .0, ← getD-bytes (a .n) (a .v) (l .i) (omega arith), add-one) (paste-suc (a .s .now) (a .k) (bytes (a .n) (a .v)) (l .i) 0 (omega arith) (omega arith)),
+        one-more (a .s .now) _ (a .k) (a .n) (a .v) (l .i) _ (omega arith) (omega arith) (l .inv .1 .0) (sym (getD-bytes (a .n) (a .v) (l .i) (omega arith))),
         rw length-set (l .inv .1 .1),
       ),
     )

@@ -1,3 +1,6 @@
+use mathlib.Core.Path.{_≡_}
+use mathlib.Core.Bool.{false}
+use lib.Dec.{eqb}
 use borrow.Author.Tests.{eq-eqb, ne-eqb, lt-ltb, le-ltb}
 use Rattle.reader.specs.Starts.{fieldsValid}
 use borrow.Author.Needs.{needs}
@@ -15,7 +18,10 @@ returns-2 c = rw (lt-ltb _ _ (c .before .before .if1 .left), ne-eqb _ _ (c .if2 
 returns-3 : tie.Need-returns-3
 unfolding fieldsValid
 returns-3 c =
-    rw (lt-ltb _ _ (c .before .before .before .before .if1 .left), eq-eqb _ _ (c .before .before .if2 .left), ne-eqb _ _ (c .if3 .taken))
+    let m = c .before .before in
+    let k = m .before .before in
+    let flagged : eqb (k .before .before .args .call .x2) 0 ≡ false = ne-eqb _ _ (c .if3 .taken) in
+    rw (lt-ltb _ _ (k .if1 .left), eq-eqb _ _ (m .if2 .left), flagged)
 
 is-entry-right-requires : tie.Need-is-entry-right-requires
 is-entry-right-requires c κs = search needs
