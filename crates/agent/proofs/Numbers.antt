@@ -1,27 +1,30 @@
 -- What an event answers in document 01's numbers: its move's, and by the table of refusals. Assumes nothing.
 use Prim.Native.Nat.{ℕ}
 use mathlib.Core.Path.{_≡_, refl, sym, _∙_}
-use mathlib.Core.Bool.{Bool, true, false, _&&_}
+use mathlib.Core.Bool.{Bool, true, false}
 use lib.Dec.{eqb}
-use borrow.Author.Tests.{eq-eqb, eqb-true}
-use Rattle.basics.specs.Choice.{pick, both}
+use borrow.Author.Tests.{eqb-false, ne-eqb}
+use Rattle.basics.specs.Choice.{pick}
 use Rattle.basics.specs.Every.{oneOf}
+use Rattle.basics.specs.Order.{eq-cases}
 use Rattle.codes.specs.Codes.{byReset}
-use Rattle.codes.specs.Outcomes.{released, noted, callOutcomes}
+use Rattle.codes.specs.Outcomes.{released, callOutcomes}
 use Rattle.cpuset.specs.declared.CpuSet.{CpuSet}
 use Rattle.board_record.specs.declared.Record.{Record}
-use Rattle.rules.specs.Statuses.{minusOf}
+use Rattle.rules.specs.Statuses.{minusOf, numberOf}
 use Rattle.rules.specs.Decide.{decideOf}
 use Rattle.rules.specs.Moves as moves
-use Rattle.rules.specs.Moves.{toldAs, primeStatus, activateStatus, numbersOf, isTold}
+use Rattle.rules.specs.Moves.{toldAs, primeStatus, activateStatus, againOf, numbersOf}
 use Rattle.rules.specs.declared.Event.{Event}
-use Rattle.rules.specs.declared.Event.the-variants as event
 use Rattle.rules.specs.declared.Move.{Move}
 use Rattle.rules.specs.declared.Move.the-variants as move
-use Rattle.rules.proofs.Moves.{decided}
+use Rattle.rules.proofs.Facts.{Facts}
+use Rattle.rules.proofs.Guards.{decide-guard}
+use Rattle.rules.proofs.Moves.{number-some, decided}
 use Rattle.agent.specs.Perform.{refusedOf, acceptedOf, freedOf, reportedOf, releasedOf, performOf}
 use Rattle.agent.specs.Step.{stepOf}
-use Rattle.agent.specs.Numbers.{Said, refusedWith, acceptedWith, freedBy, saidOf, isSaid, Answers}
+use Rattle.agent.specs.Numbers.{withStatus, freedBy, Said, refusedWith, acceptedWith, saidOf, releasedWith, releaseFor, Parts, Answers}
+use Rattle.agent.specs.declared.Caller.the-variants as caller
 use Rattle.agent.specs.declared.Outcome.{Outcome}
 use Rattle.agent.specs.declared.Outcome.the-variants.{Refused, Accepted}
 use Rattle.agent.specs.declared.Release.the-variants as release
@@ -64,26 +67,35 @@ performed-says r (move.EndPrime p) = record { refusal = refl; caller = refl; giv
 performed-says r (move.EndActivate p) = record { refusal = refl; caller = refl; given = released-status (r .held) (p .code) }
 performed-says r (move.NoteImage i) = record { refusal = refl; caller = refl; given = refl }
 
--- ---- so what is told is said
+-- ---- what is accepted has its parts
 
-module _ (s : Said) (m : moves.Numbers) (a : Agrees s m) where
-  -- a report has no caller's part, and gives its status
-  report-said : (status : ℕ) → (eqb (m .outcome) released && eqb (m .given) status) ≡ true → (eqb (s .caller) 0 && eqb (s .freed .x0) status) ≡ true
-  report-said status t =
-      let told = both (eqb (m .outcome) released) (eqb (m .given) status) t in
-      let o = eqb-true (m .outcome) released (told .0) in
-      let none : s .caller ≡ 0 = a .caller ∙ rw o in
-      let x0 : m .given ≡ s .freed .x0 = rw o at (a .given) in
-      rw (none, sym x0 ∙ eqb-true (m .given) status (told .1)) (eq-eqb status status refl)
+prime-said : (held : CpuSet) (code : ℕ) → saidOf (Accepted (record { caller = caller.Nothing; release = reportedOf held code })) ≡ releasedWith withStatus held (primeStatus code) (againOf code)
+unfolding primeStatus reportedOf acceptedWith releasedWith
+prime-said held code = go (eqb code 1)
+  where
+    go : (again : Bool) → acceptedWith (record { caller = caller.Nothing; release = pick again (freedOf held 0 1) (freedOf held (minusOf code) 0) }) ≡ releasedWith withStatus held (pick again 0 (minusOf code)) (pick again 1 0)
+    go true = refl
+    go false = refl
 
-  parts-said : (e : Event) → isTold e m ≡ true → isSaid e s ≡ true
-  parts-said (event.Call call) t = let same : s .caller ≡ m .outcome = a .caller ∙ rw t in rw same t
-  parts-said (event.Prime p) t = report-said (primeStatus (p .code)) t
-  parts-said (event.Activate p) t = report-said (activateStatus (p .code)) t
-  parts-said (event.Image i) t =
-      let o = eqb-true (m .outcome) noted (both (eqb (m .outcome) noted) _ t .0) in
-      let none : s .caller ≡ 0 = a .caller ∙ rw o in
-      rw none
+activate-said : (held : CpuSet) (code : ℕ) → saidOf (Accepted (record { caller = caller.Nothing; release = releasedOf held code })) ≡ releasedWith (releaseFor code) held (activateStatus code) (againOf code)
+unfolding activateStatus releasedOf acceptedWith releasedWith
+activate-said held code = eq-cases code byReset (λ q. rw q) (λ d. rw (ne-eqb code byReset d) (prime-said held code))
+
+parts-said : (r : Record) (e : Event) (m : Move) → Facts r e m → numbersOf m .refusal ≡ 0 → Parts r e (saidOf (performOf r m .outcome))
+unfolding acceptedOf acceptedWith releasedWith moves.refusedWith
+parts-said r e (move.Refuse x) g z = absurd (eqb-false (numberOf x) 0 (number-some x) z)
+parts-said r e (move.Return x) g z = rw (g .by .event)
+parts-said r e move.NoteInfo g z = rw (g .by .event)
+parts-said r e (move.StartPrime a) g z = rw (g .by .event)
+parts-said r e (move.Gather a) g z = rw (g .by .event)
+parts-said r e (move.StartTogether a) g z = rw (g .by .event)
+parts-said r e (move.StartAlone a) g z = rw (g .by .event)
+parts-said r e move.ToIdle g z = rw (g .by .event)
+parts-said r e (move.PowerOff cpu) g z = rw (g .by .event)
+parts-said r e (move.PowerOn w) g z = rw (g .by .event)
+parts-said r e (move.EndPrime p) g z = rw (g .event) (prime-said (r .held) (p .code))
+parts-said r e (move.EndActivate p) g z = rw (g .event) (activate-said (r .held) (p .code))
+parts-said r e (move.NoteImage i) g z = rw (g .event)
 
 refused-only : (o : Outcome) → (saidOf o .refusal ≡ 0 → ⊥) → saidOf o ≡ refusedWith (saidOf o .refusal)
 unfolding refusedWith acceptedWith
@@ -99,5 +111,5 @@ step-answers r e entries contexts =
     record {
       refusal = a .refusal ∙ d .refusal;
       nothing = refused-only (performOf r m .outcome);
-      parts = λ z. parts-said (saidOf (performOf r m .outcome)) (numbersOf m) a e (d .told (sym (a .refusal) ∙ z));
+      parts = λ z. parts-said r e m (decide-guard r e entries contexts) (sym (a .refusal) ∙ z);
     }

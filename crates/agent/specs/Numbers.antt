@@ -1,16 +1,18 @@
 -- An answer in document 01's numbers ("Events and what they answer"; the outcomes: "Packed forms"). Assumes nothing.
 use Prim.Native.Nat.{ℕ}
 use mathlib.Core.Path.{_≡_}
-use mathlib.Core.Bool.{Bool, true, _&&_}
+use mathlib.Core.Bool.{true}
 use lib.Dec.{eqb}
+use Rattle.basics.specs.Choice.{pick}
 use Rattle.basics.specs.Every.{oneOf}
 use Rattle.basics.specs.First.{firstOf}
+use Rattle.codes.specs.Codes.{byReset}
 use Rattle.codes.specs.Outcomes.{returned, held, primeStarted, activationStarted, gone, callOutcomes}
 use Rattle.cpuset.specs.Set.{noneOf}
 use Rattle.cpuset.specs.declared.CpuSet.{CpuSet}
 use Rattle.board_record.specs.declared.Record.{Record}
 use Rattle.rules.specs.Statuses.{numberOf}
-use Rattle.rules.specs.Moves.{primeStatus, activateStatus, eventRows}
+use Rattle.rules.specs.Moves.{primeStatus, activateStatus, againOf, eventRows}
 use Rattle.rules.specs.declared.Event.{Event}
 use Rattle.rules.specs.declared.Event.the-variants as event
 use Rattle.rules.specs.declared.Registers.{Registers}
@@ -96,15 +98,25 @@ saidOf (Accepted a) = acceptedWith a
 
 -- ---- what is promised of it
 
--- "Calls have outcomes 1 to 5", "reports and images have none"; a report gives the status that it says
-abbrev pub isSaid : Event → Said → Bool
-isSaid (event.Call call) s = oneOf (s .caller) callOutcomes
-isSaid (event.Prime p) s = eqb (s .caller) 0 && eqb (s .freed .x0) (primeStatus (p .code))
-isSaid (event.Activate p) s = eqb (s .caller) 0 && eqb (s .freed .x0) (activateStatus (p .code))
-isSaid (event.Image i) s = eqb (s .caller) 0
+-- a report or an image, which has no caller's part
+unfoldable pub releasedWith : ℕ → CpuSet → ℕ → ℕ → Said
+releasedWith release cpus x0 x1 =
+    record { refusal = 0; caller = 0; returned = noRegisters; release = release; freed = record { cpus = cpus; x0 = x0; x1 = x1 } }
+
+-- "12 resumes the held CPUs by entry"
+abbrev pub releaseFor : ℕ → ℕ
+releaseFor code = pick (eqb code byReset) byEntry withStatus
+
+-- "Calls have outcomes 1 to 5", "reports and images have none": a report releases the held CPUs with the status that it says,
+-- and an image nobody
+abbrev pub Parts : Record → Event → Said → Type 0
+Parts r (event.Call call) s = oneOf (s .caller) callOutcomes ≡ true
+Parts r (event.Prime p) s = s ≡ releasedWith withStatus (r .held) (primeStatus (p .code)) (againOf (p .code))
+Parts r (event.Activate p) s = s ≡ releasedWith (releaseFor (p .code)) (r .held) (activateStatus (p .code)) (againOf (p .code))
+Parts r (event.Image i) s = s ≡ releasedWith nobody noneOf 0 0
 
 -- "The first that applies .. is given. It comes with nothing else"; 0 is no refusal, and then there are the parts
 pub record Answers (r : Record) (e : Event) (entries contexts : ℕ) (s : Said) : Type 0 where
   pub refusal : s .refusal ≡ firstOf (eventRows r e entries contexts)
   pub nothing : (s .refusal ≡ 0 → ⊥) → s ≡ refusedWith (s .refusal)
-  pub parts : s .refusal ≡ 0 → isSaid e s ≡ true
+  pub parts : s .refusal ≡ 0 → Parts r e s

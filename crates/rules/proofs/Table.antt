@@ -1,4 +1,5 @@
--- The code's table agrees with the rule of each state: one test over the whole table. Assumes nothing.
+-- The rows by place, which the code's table has (`row_at`), are the rules of the states: one test over the whole table. Assumes
+-- nothing.
 use Prim.Native.Nat.{_<_}
 use mathlib.Core.Path.{_≡_, refl}
 use mathlib.Core.Bool.{true}

@@ -36,12 +36,16 @@ refusedWith n = record { refusal = n; outcome = 0; given = 0 }
 unfoldable pub toldAs : ℕ → ℕ → Numbers
 toldAs outcome given = record { refusal = 0; outcome = outcome; given = given }
 
--- "The held CPUs are released with that status .., or with X0 = 0 .. for code 1"; of code 12 "word 6 of its record is 0"
+-- "The held CPUs are released with that status and X1 = 0, or with X0 = 0 and X1 = 1 for code 1"; of code 12 "word 6 of its
+-- record is 0"
 unfoldable pub primeStatus : ℕ → ℕ
 primeStatus code = pick (eqb code 1) 0 (minusOf code)
 
 unfoldable pub activateStatus : ℕ → ℕ
 activateStatus code = pick (eqb code byReset) 0 (primeStatus code)
+
+abbrev pub againOf : ℕ → ℕ
+againOf code = pick (eqb code 1) 1 0
 
 abbrev pub numbersOf : Move → Numbers
 numbersOf (Refuse x) = refusedWith (numberOf x)
