@@ -2,7 +2,7 @@
 use Prim.Native.Nat.{ℕ, _<_, _≤_}
 use mathlib.Core.Path.{_≡_, refl, sym, ap, subst, _∙_}
 use mathlib.Core.Bool.{Bool, true, false, _&&_}
-use mathlib.Core.List.{List, [], _∷_, _++_}
+use mathlib.Core.List.{List, [], _∷_}
 use native.Mathlib.Omega.{arith}
 use lib.Dec.{leb}
 use lib.ListN.{set, length-set}
@@ -325,8 +325,3 @@ never-below b s es c q =
     let w = told r (after-kept es (freshOf b) (fresh-stands b s) (fresh-sized b) .0) in
     let e : (isPending (r .pending) c && (leb (numberedOf (r .board) c .svn) (versionOf (r .version) c) && pick (skipsRendezvous (r .state)) (numberedOf (r .board) c .optional) true)) ≡ true = rw q at (w .state) in
     leb-true _ _ (and-left (leb (numberedOf (r .board) c .svn) (versionOf (r .version) c)) _ (and-right (isPending (r .pending) c) _ e))
-
--- ---- some events, and then more
-pub after-append : (es more : List Event) (r : Record) → after r (es ++ more) ≡ after (after r es) more
-after-append [] more r = refl
-after-append (e ∷ es) more r = after-append es more (stepped r e .rec)

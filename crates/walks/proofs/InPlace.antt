@@ -21,7 +21,7 @@ use prog.Model.{Model}
 use prog.Routine.{Routine, Env}
 use prog.Wp.{Heap, Calls, Loops, WpFn, Tables, Closed}
 use ghost.Atoms.{Atoms, sem}
-use contract.Monad.{fact, factI}
+use contract.Monad.{fact}
 use contract.Lifetimes.{Lfts}
 use contract.Running.{GhostRules, Running, givenOf, tables, tablesOf}
 use types.Kit.{Given, Go, ‵, raw, _⊛_, some, later, _$_, _∵_, !, qed, by, move, keep, drop, use1, use3, split, join, pick, rewrite, fsplit, fsplit3, fjoin, fjoin3, feqI, feqL, suffices, frame, await, done}

@@ -1,7 +1,7 @@
 -- `lfa_step` meets its contract: it is a door over `flat::step`, by the walk of crates/walks. That what the walk shows is what is
 -- promised is `shown`. Assumes nothing.
 use mathlib.Core.Path.{refl}
-use mathlib.Core.List.{[], _∷_}
+use mathlib.Core.List.{[]}
 use base.Logic.{emp}
 use contract.Monad.{factI}
 use Rattle.walks.proofs.InPlace.{Door, shown, in-place}
