@@ -53,7 +53,7 @@ extern "C" {
  * zone included. Arguments and answer lie in the caller's own frame; what memcpy and memset take beyond a red zone is on top.
  */
 #define LFA_STACK_ABI 1024
-#define LFA_STACK_DESCRIBE 8192
+#define LFA_STACK_DESCRIBE 5120
 #define LFA_STACK_FRESH 9216
 #define LFA_STACK_STEP 17408
 #define LFA_STACK_LOG 1024
@@ -155,8 +155,7 @@ enum lfa_state {
 
 /*
  * The numbers of the refusals. The first that applies is given; for events that is 9, then 1, then 32 for an unknown kind or
- * the rest; a board is written with 26, 22, 23, 24, 25, 27 in that order. A refusal comes with nothing else and changes nothing
- * lent.
+ * the rest; for writing a board 22, then 26, 23, 24, 25, 27. A refusal comes with nothing else and changes nothing lent.
  *
  * 31: component over 31, version of 2^32 or more or, when writing, CPU over 63.
  */
@@ -370,7 +369,8 @@ static inline int lfa_fits(void)
 }
 
 /*
- * Writes a board description at the start of buf, LFA_BOARD_BYTES of it; bytes not written stay. It looks only within the counts.
+ * Writes a board description at the start of buf, LFA_BOARD_BYTES of its components; bytes not written stay. What lies past the
+ * count of components is not looked at; where that is over 32, the flags of all 32 are, since 22 comes before 26.
  *
  * The description: count of components less 1 (5 bits), of CPUs less 1 (6), zero (5), first (64), last (64); then per component
  * UUID bytes, capable, may_reset, optional (1 each), zero (5), SVN (32); most significant bit first.

@@ -1,13 +1,17 @@
 /* A monitor over the library, to copy. Compile it with -Wswitch-enum: the compiler then names a case that is missing. */
 #include "monitor.h"
 
-int monitor_start(struct monitor *m, const uint8_t *board, size_t board_length)
+uint64_t monitor_start(struct monitor *m, const struct lfa_board *board)
 {
-    if (!lfa_fits()) return 0;
-    struct lfa_fresh fresh = lfa_fresh(board, board_length);
+    /* before any other call: another library would take these structs for its own */
+    if (!lfa_fits()) return MONITOR_OTHER_LIBRARY;
+    struct lfa_written w = lfa_describe(m->board, sizeof m->board, *board);
+    if (w.refusal != LFA_REFUSAL_NONE) return w.refusal;
+    struct lfa_fresh fresh = lfa_fresh(m->board, w.bytes);
+    m->board_length = w.bytes;
     m->rec = fresh.rec;
     m->logged = 0;
-    return fresh.refusal == LFA_REFUSAL_NONE;
+    return fresh.refusal;
 }
 
 /* What becomes of the CPU that called, and of the job that its call started. */
@@ -20,14 +24,14 @@ static void tell_caller(const struct monitor *m, uint64_t cpu, const struct lfa_
         platform_return(cpu, a->returned);
         break;
     case LFA_CALLER_HELD:
-        platform_park(cpu);
+        platform_hold(cpu);
         break;
     case LFA_CALLER_PRIME_STARTED:
-        platform_park(cpu);
+        platform_hold(cpu);
         platform_prime(m->rec.subject);
         break;
     case LFA_CALLER_ACTIVATION_STARTED:
-        platform_park(cpu);
+        platform_hold(cpu);
         platform_activate(m->rec.subject);
         break;
     case LFA_CALLER_GONE:
@@ -46,7 +50,7 @@ static void release(const struct monitor *m, uint64_t cpu, const struct lfa_answ
         platform_return(cpu, (struct lfa_registers){.x0 = a->freed.x0, .x1 = a->freed.x1});
         break;
     case LFA_RELEASE_BY_ENTRY:
-        platform_enter(cpu, m->entries[cpu], m->contexts[cpu]);
+        platform_resume(cpu, m->entries[cpu], m->contexts[cpu]);
         break;
     }
 }

@@ -53,14 +53,14 @@ void platform_return(uint64_t cpu, struct lfa_registers x)
     printf(" CPU %" PRIu64 " goes on with X0 = %" PRIu64 ", X1 = %" PRIu64 ";", cpu, x.x0, x.x1);
 }
 
-void platform_enter(uint64_t cpu, uint64_t entry, uint64_t context)
+void platform_resume(uint64_t cpu, uint64_t entry, uint64_t context)
 {
-    printf(" CPU %" PRIu64 " starts at 0x%" PRIx64 " with 0x%" PRIx64 ";", cpu, entry, context);
+    printf(" CPU %" PRIu64 " resumes at 0x%" PRIx64 " with 0x%" PRIx64 ";", cpu, entry, context);
 }
 
-void platform_park(uint64_t cpu)
+void platform_hold(uint64_t cpu)
 {
-    printf(" CPU %" PRIu64 " waits;", cpu);
+    printf(" CPU %" PRIu64 " is held;", cpu);
 }
 
 void platform_switch_off(uint64_t cpu)
@@ -105,11 +105,11 @@ static int read_back(const struct monitor *m)
 }
 
 /* From the log alone: what is prepared before the last CPU arrives, and what its call starts; 1 where both say the updated one. */
-static int ask(const struct monitor *m, const uint8_t *board, size_t board_length)
+static int ask(const struct monitor *m)
 {
     size_t k = LAST_ARRIVAL_PLACE;
     struct lfa_prepared p = lfa_prepared(m->log, m->logged, k);
-    struct lfa_started s = lfa_starts(board, board_length, m->log, m->logged, k, UPDATE[LAST_ARRIVAL].event.call);
+    struct lfa_started s = lfa_starts(m->board, m->board_length, m->log, m->logged, k, UPDATE[LAST_ARRIVAL].event.call);
     printf("place %zu: component %" PRIu64 " is prepared, looked at %zu records\n", k, p.prepared.component, p.looked);
     printf("place %zu: the call of CPU 1 starts component %" PRIu64 "\n", k, s.started.component);
     return p.refusal == LFA_REFUSAL_NONE && p.prepared.found && s.refusal == LFA_REFUSAL_NONE && s.started.found;
@@ -129,12 +129,10 @@ static void fill(struct monitor *m)
 int main(void)
 {
     static struct monitor m;
-    uint8_t board[LFA_BOARD_BYTES(LFA_MOST_COMPONENTS)];
-    struct lfa_written w = lfa_describe(board, sizeof board, BOARD);
-    if (!monitor_start(&m, board, w.bytes)) return 1;
-    printf("a board description of %zu bytes\n", w.bytes);
+    if (monitor_start(&m, &BOARD) != LFA_REFUSAL_NONE) return 1;
+    printf("board: a description of %zu bytes\n", m.board_length);
     for (size_t i = 0; i < EVENTS; i++) run(&m, &UPDATE[i]);
-    int answered = read_back(&m) && ask(&m, board, w.bytes);
+    int answered = read_back(&m) && ask(&m);
     fill(&m);
     return answered ? 0 : 1;
 }
