@@ -119,10 +119,8 @@ static int ask(const struct monitor *m)
 static void fill(struct monitor *m)
 {
     struct lfa_event image = {.kind = LFA_KIND_IMAGE, .image = {.component = UPDATED, .version = 6}};
-    uint64_t refusal;
-    do {
-        refusal = monitor_handle(m, &image);
-    } while (refusal == LFA_REFUSAL_NONE);
+    uint64_t refusal = LFA_REFUSAL_NONE;
+    for (size_t i = 0; i < LFA_MOST_LOG_RECORDS && refusal == LFA_REFUSAL_NONE; i++) refusal = monitor_handle(m, &image);
     printf("after %zu records an image is refused %" PRIu64 "\n", m->logged / LFA_LOG_RECORD_BYTES, refusal);
 }
 
