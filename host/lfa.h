@@ -3,7 +3,8 @@
  * two questions that a log answers. The rules are document 01's; C99, and C++ as well. host/c/monitor.c is a monitor to copy.
  *
  * All that crosses is numbers, arrays of numbers, and structs of these. Whatever they hold, the answer is a stated one: nothing
- * here aborts, allocates or keeps anything between two calls. The library calls memcpy and memset and nothing else.
+ * here aborts, allocates or keeps anything between two calls. The library calls memcpy and memset and nothing else: a host without
+ * a C library brings these two.
  *
  * What the host owes:
  * - It asks lfa_fits before anything else. A library that was built for another record would write past this one.
@@ -12,7 +13,8 @@
  * - SSE2 is switched on, and xmm0 to xmm15 are the library's during a call: the host saves them for whoever it serves. No other
  *   floating-point or vector register is touched.
  * - No interrupt is taken on the stack of a call: each is off, or has a stack of its own. The 128 bytes under the stack pointer
- *   (the red zone) are in use, and the processor itself writes there, before a handler could step over them.
+ *   (the red zone) are in use, and the processor itself writes there, before a handler could step over them. A program under Linux
+ *   has all this from the system, whose signals step over the red zone.
  * - A pointer is aligned, and valid for the length that comes with it; where that is 0 it may be null. A record's pointer is
  *   never null.
  * - The record is writable, even where the event is refused: it is stored again as it was.
@@ -177,8 +179,8 @@ enum lfa_refusal {
     LFA_REFUSAL_BOTH_FLAGS = 24,      /* board: optional with may_reset */
     LFA_REFUSAL_UUID_TWICE = 25,      /* board: UUID twice */
     LFA_REFUSAL_COUNT = 26,           /* writing a board: a count outside its limits */
-    LFA_REFUSAL_BOARD_NO_ROOM = 27,   /* writing a board: no room for its bytes */
-    LFA_REFUSAL_RECORD_TOO_SHORT = 30, /* log: under 51 bytes left */
+    LFA_REFUSAL_NO_BOARD_ROOM = 27,   /* writing a board: no room for its bytes */
+    LFA_REFUSAL_LOG_TOO_SHORT = 30,   /* log: under 51 bytes left */
     LFA_REFUSAL_FIELD = 31,           /* log: unused field not 0, or a number too large for its field (above) */
     LFA_REFUSAL_UNKNOWN = 32,         /* log: kind, outcome or code unknown; event: kind unknown */
     LFA_REFUSAL_LOG = 33,             /* log length no multiple of 51, over 1,024 records, or place past its end */
