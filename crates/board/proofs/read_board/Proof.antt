@@ -1,3 +1,4 @@
+-- One case for each verdict of `shape`, and both give `readOf`; that it writes back, and the refusal's number, follow from that alone.
 use mathlib.Core.Path.{sym, _∙_}
 use native.Mathlib.Omega.{arith}
 use Rattle.bitfield.specs.Bits.{AreBytes}
