@@ -1,4 +1,4 @@
--- One case for each verdict of `shape`, and both give `readOf`; that it writes back, and the refusal's number, follow from that alone.
+-- One case for each verdict of `shape`, and both give `readOf`; the number follows from that, and that it writes back, since the slice holds bytes.
 use mathlib.Core.Path.{sym, _∙_}
 use native.Mathlib.Omega.{arith}
 use Rattle.bitfield.specs.Bits.{AreBytes}
