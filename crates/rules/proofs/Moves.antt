@@ -1,5 +1,5 @@
--- What is decided, in document 01's numbers: the refusal is the first of its table that applies, and what is accepted is told as
--- its kind of event is. Assumes nothing.
+-- What is decided, in document 01's numbers: a refusal is the first of its table, and past these tests no call is refused (`Free`);
+-- what is accepted is told as its kind of event is, by its move's facts. Assumes nothing.
 use Prim.Native.Nat.{ℕ}
 use mathlib.Core.Path.{_≡_, refl}
 use mathlib.Core.Bool.{Bool, true, false, not, _&&_, _||_}

@@ -1,3 +1,4 @@
+-- One case for each return: the tests above it are those of `noEvent`, in its order.
 use borrow.Author.Tests.{le-ltb, lt-ltb}
 use borrow.Author.Needs.{needs}
 use Rattle.basics.specs.Choice.{by, no, yes}

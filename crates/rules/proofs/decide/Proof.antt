@@ -1,3 +1,4 @@
+-- One case for each return: the tests above it are those of `decideOf`, then the kind of event; the numbers follow from that (`decided`).
 use mathlib.Core.Path.{_≡_, refl}
 use borrow.Author.Tests.{le-ltb, lt-ltb}
 use Rattle.basics.specs.Choice.{by, no, yes, and-so}

@@ -1,3 +1,4 @@
+-- One case for each number that the match names, by which `stateIn` computes; for any other each of its tests is false, and dead is left.
 use borrow.Author.Tests.{ne-eqb}
 use Rattle.flat.proofs.records.state.Statement.{statement}
 use Rattle.flat.proofs.records.state.Tie as tie
