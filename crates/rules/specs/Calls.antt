@@ -93,7 +93,7 @@ unfoldable pub arrivalOf : Call → Bool → Arrival
 arrivalOf call keeps =
     record { component = call .x1; cpu = call .cpu; entry = pick keeps (call .x3) 0; context = pick keeps (call .x4) 0 }
 
--- an id with which it isn't -7 (H)
+-- an id that it takes, else -7 (H)
 unfoldable pub mayPrime : Record → ℕ → Bool
 mayPrime r id = isCapable (r .board) id && isPending (r .pending) id
 
@@ -124,11 +124,11 @@ primeOf r call = primeBy (ruleOf (r .state) .prime) r call
 abbrev pub skips : Call → Bool
 skips call = eqb (call .x2) 1
 
--- skip only where optional and nobody waits, and no rendezvous once skip was given (H)
+-- skip for an optional component and not in gathering, and always in alone and half-activated (H)
 unfoldable pub skipRight : Component → State → Bool → Bool
 skipRight c s skip = pick skip (pick (isGathering s) false (c .optional)) (not (skipsRendezvous s))
 
--- -8 for that, for another id, and for any other flag
+-- with that, the state's id and no other flag; else -8
 unfoldable pub fieldsRight : Record → Call → Bool
 fieldsRight r call =
     isFor (r .state) (call .x1)
