@@ -48,7 +48,7 @@ stateIn n c =
     (pick (eqb n 7) (HalfActivated c)
     Dead)))))))
 
--- "idle and dead have none"
+-- none in idle and dead
 abbrev pub isState : ℕ → ℕ → Bool
 isState n c = pick (eqb n 0) (eqb c 0) (pick (eqb n 8) (eqb c 0) (ltb n 8))
 

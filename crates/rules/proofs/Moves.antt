@@ -143,7 +143,7 @@ module _ (r : Record) (call : Call) (some-free : holdingOf (r .state) ≡ All �
   answer-free (Known f) = function-free f
   answer-free Unknown = said _
 
--- ---- the table: "The first that applies, downwards and left to right, is given"
+-- ---- the table: "The first that applies" (Events 20)
 
 call-first : (absent on held : Bool) (m : Move) → (on ≡ true → held ≡ false → numbersOf m .refusal ≡ 0)
     → numbersOf (pick absent (Refuse NoSuchCpu) (pick on (pick held (Refuse CpuHeld) m) (Refuse CpuOff))) .refusal ≡ firstOf ((2, absent) ∷ (3, not on) ∷ (4, held) ∷ [])

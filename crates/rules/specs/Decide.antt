@@ -20,7 +20,7 @@ eventOf r (event.Prime p) = primeReportOf r p
 eventOf r (event.Activate p) = activateReportOf r p
 eventOf r (event.Image i) = imageOf r i
 
--- 9, 1: "record not well formed"; "a resume table is shorter than the CPU count"
+-- 9, then 1 (Events 9 and 10)
 unfoldable pub decideOf : Record → Event → ℕ → ℕ → Move
 decideOf r e entryPlaces contextPlaces =
     pick (wellFormed r)
