@@ -54,8 +54,8 @@ pub struct FlatBoard {
     pub component: [FlatComponent; MOST_COMPONENTS],
 }
 
-// A board's record. The state is a number from 0 (idle) to 8 (dead), in the order of document 01's table of rules; subject is
-// its component, and 0 in idle and dead.
+// A board's record. The state is its place in document 01's table of rules, from 0 (idle) on; subject is its component, and 0
+// in idle and dead.
 #[repr(C)]
 pub struct FlatRecord {
     pub board: FlatBoard,
