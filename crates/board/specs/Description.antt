@@ -11,8 +11,8 @@ use Rattle.board.specs.declared.Component.{Component}
 use Rattle.board.specs.declared.Board.{Board}
 use Rattle.board.specs.declared.Refusal.{Refusal}
 use Rattle.board.specs.declared.Refusal.the-variants.{TooShort, TooLong, ReservedBit, FirstAboveLast, OptionalMayReset, UuidTwice, CountOutside, NoRoom}
-use Rattle.board.specs.declared.Verdict.{Verdict}
-use Rattle.board.specs.declared.Verdict.the-variants.{Accepted, Refused}
+use Rattle.board.specs.declared.Ruling.{Ruling}
+use Rattle.board.specs.declared.Ruling.the-variants.{Kept, Broken}
 
 -- the limits of both counts, and the bytes of a UUID (Board 1 and 2)
 abbrev pub mostComponents : ℕ
@@ -79,8 +79,8 @@ entryRight b id entry = pick (mayReset b id) (goodEntry (b .first) (b .last) ent
 -- ---- the refusals that a description itself calls for
 
 -- a refusal where the test fails, else what comes next
-abbrev pub unless : Bool → Refusal → Verdict → Verdict
-unless ok x next = pick ok next (Refused x)
+abbrev pub unless : {A : Type 0} → Bool → A → A → A
+unless ok refused next = pick ok next refused
 
 -- 26: both counts
 unfoldable pub withinLimit : ℕ → ℕ → Bool
@@ -117,12 +117,12 @@ abbrev pub distinct : Board → Bool
 distinct b = allBelow (b .components) (unseen (b .component))
 
 -- 23, 24, 25: the range, then the flags, then the UUIDs
-unfoldable pub judgedOf : Board → Verdict
+unfoldable pub judgedOf : Board → Ruling
 judgedOf b =
-    unless (leb (b .first) (b .last)) FirstAboveLast
-    (unless (apart b) OptionalMayReset
-    (unless (distinct b) UuidTwice
-    Accepted))
+    unless (leb (b .first) (b .last)) (Broken FirstAboveLast)
+    (unless (apart b) (Broken OptionalMayReset)
+    (unless (distinct b) (Broken UuidTwice)
+    Kept))
 
 -- document 01's number of each refusal
 abbrev pub numberOf : Refusal → ℕ

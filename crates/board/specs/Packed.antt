@@ -16,6 +16,8 @@ use Rattle.board.specs.declared.Component.{Component}
 use Rattle.board.specs.declared.Board.{Board}
 use Rattle.board.specs.declared.Refusal.{Refusal}
 use Rattle.board.specs.declared.Refusal.the-variants.{TooShort, TooLong, ReservedBit, CountOutside, NoRoom}
+use Rattle.board.specs.declared.Ruling.{Ruling}
+use Rattle.board.specs.declared.Ruling.the-variants.{Kept, Broken}
 use Rattle.board.specs.declared.Verdict.{Verdict}
 use Rattle.board.specs.declared.Verdict.the-variants.{Accepted, Refused}
 use Rattle.board.specs.declared.ReadBoard.{ReadBoard}
@@ -98,10 +100,10 @@ reservedClear s n = eqb (headField s 2) 0 && allBelow n (zeroAt s)
 -- 20, 21, 22: fewer bytes than the counts call for, more of them, a zero bit that is set
 unfoldable pub shapeOf : List ℕ → Verdict
 shapeOf s =
-    unless (leb 2 (length s)) TooShort
-    (unless (leb (lengthOf (componentsIn s)) (length s)) TooShort
-    (unless (leb (length s) (lengthOf (componentsIn s))) TooLong
-    (unless (reservedClear s (componentsIn s)) ReservedBit
+    unless (leb 2 (length s)) (Refused TooShort)
+    (unless (leb (lengthOf (componentsIn s)) (length s)) (Refused TooShort)
+    (unless (leb (length s) (lengthOf (componentsIn s))) (Refused TooLong)
+    (unless (reservedClear s (componentsIn s)) (Refused ReservedBit)
     Accepted)))
 
 abbrev pub accepted : Board → ReadBoard
@@ -115,8 +117,13 @@ abbrev pub settle : Verdict → ReadBoard → ReadBoard
 settle Accepted r = r
 settle (Refused x) r = unread x
 
+-- the rules of the description itself, as reading's verdict
+abbrev pub ruledAs : Ruling → Verdict
+ruledAs Kept = Accepted
+ruledAs (Broken x) = Refused x
+
 unfoldable pub readOf : List ℕ → ReadBoard
-readOf s = settle (shapeOf s) (settle (judgedOf (boardAt s)) (accepted (boardAt s)))
+readOf s = settle (shapeOf s) (settle (ruledAs (judgedOf (boardAt s))) (accepted (boardAt s)))
 
 -- ---- writing
 
@@ -144,24 +151,24 @@ unfoldable pub bytesOf : Board → List ℕ
 bytesOf b = headBytes b ++ inTurn (b .components) (bytesAt b)
 
 -- 26, 23, 24, 25
-unfoldable pub writableOf : Board → Verdict
-writableOf b = unless (countsOf b) CountOutside (judgedOf b)
+unfoldable pub writableOf : Board → Ruling
+writableOf b = unless (countsOf b) (Broken CountOutside) (judgedOf b)
 
-abbrev pub isAccepted : Verdict → Bool
-isAccepted Accepted = true
-isAccepted (Refused x) = false
+abbrev pub isKept : Ruling → Bool
+isKept Kept = true
+isKept (Broken x) = false
 
 abbrev pub isWritable : Board → Bool
-isWritable b = isAccepted (writableOf b)
+isWritable b = isKept (writableOf b)
 
 -- what a well-formed record asks of its board: the rules of a description, and blanks past its count
 unfoldable pub boardStands : Board → Bool
 boardStands b = isWritable b && blankPast b
 
 -- 27 last
-abbrev pub putBy : Verdict → ℕ → ℕ → Written
-putBy (Refused x) room n = Nothing x
-putBy Accepted room n = pick (ltb room n) (Nothing NoRoom) (Bytes n)
+abbrev pub putBy : Ruling → ℕ → ℕ → Written
+putBy (Broken x) room n = Nothing x
+putBy Kept room n = pick (ltb room n) (Nothing NoRoom) (Bytes n)
 
 unfoldable pub putOf : ℕ → Board → Written
 putOf room b = putBy (writableOf b) room (lengthOf (b .components))

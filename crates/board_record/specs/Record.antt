@@ -3,7 +3,7 @@ use Prim.Native.Nat.{ℕ}
 use mathlib.Core.Bool.{Bool, true, false}
 use mathlib.Core.List.{List, [], _∷_}
 use lib.Dec.{eqb}
-use lib.ListN.{getD, replicate}
+use lib.ListN.{length, getD, replicate}
 use Rattle.basics.specs.Every.{oneOf}
 use Rattle.cpuset.specs.Set.{noneOf, onlyOf}
 use Rattle.board.specs.Description.{mostComponents, mostCpus}
@@ -87,6 +87,10 @@ placeOf Dead = 8
 -- the states in the order of that table, about component c where they have one
 abbrev pub inOrder : ℕ → List State
 inOrder c = Idle ∷ Preparing c ∷ HalfPrepared c ∷ Ready c ∷ Gathering c ∷ Together c ∷ Alone c ∷ HalfActivated c ∷ Dead ∷ []
+
+-- how many there are; a new state takes the next place, and those that are there keep theirs
+abbrev pub stateCount : ℕ
+stateCount = length (inOrder 0)
 
 -- a prime job is running
 abbrev pub isPreparing : State → Bool

@@ -17,6 +17,8 @@ use Rattle.board_record.specs.WellFormed.{wellFormed}
 use Rattle.board_record.specs.declared.Record.{Record}
 use Rattle.rules.specs.Statuses.{minusOf, numberOf}
 use Rattle.rules.specs.Reports.{isPriming, isActivating, activateAllows}
+use Rattle.rules.specs.declared.Admission.{Admission}
+use Rattle.rules.specs.declared.Admission.the-variants.{Admitted, Refused}
 use Rattle.rules.specs.declared.Event.{Event}
 use Rattle.rules.specs.declared.Event.the-variants as event
 use Rattle.rules.specs.declared.Move.{Move}
@@ -61,6 +63,11 @@ numbersOf (EndPrime p) = toldAs released (primeStatus (p .code))
 numbersOf (EndActivate p) = toldAs released (activateStatus (p .code))
 numbersOf (NoteImage i) = toldAs noted 0
 
+-- of what comes before the event's own rules
+abbrev pub refusalOf : Admission → ℕ
+refusalOf Admitted = 0
+refusalOf (Refused x) = numberOf x
+
 -- ---- the table of refusals (Events 8)
 
 -- of calls (Events 11), of reports (Events 12) and of images (Events 13)
@@ -73,10 +80,13 @@ rowsFor r (event.Activate p) =
     ∷ []
 rowsFor r (event.Image i) = (7, not (isCapable (r .board) (i .component))) ∷ (8, isFor (r .state) (i .component)) ∷ []
 
--- and before them those of any event (Events 9 and 10)
+-- those of any event (Events 9 and 10), and the rows after them
+abbrev pub admissionRows : Record → ℕ → ℕ → List Row → List Row
+admissionRows r entries contexts rows =
+    (9, not (wellFormed r)) ∷ (1, ltb entries (r .board .cpus) || ltb contexts (r .board .cpus)) ∷ rows
+
 abbrev pub eventRows : Record → Event → ℕ → ℕ → List Row
-eventRows r e entries contexts =
-    (9, not (wellFormed r)) ∷ (1, ltb entries (r .board .cpus) || ltb contexts (r .board .cpus)) ∷ rowsFor r e
+eventRows r e entries contexts = admissionRows r entries contexts (rowsFor r e)
 
 -- ---- what is accepted
 
