@@ -178,7 +178,7 @@ enum lfa_refusal {
     LFA_REFUSAL_RANGE = 23,           /* board: first > last */
     LFA_REFUSAL_BOTH_FLAGS = 24,      /* board: optional with may_reset */
     LFA_REFUSAL_UUID_TWICE = 25,      /* board: UUID twice */
-    LFA_REFUSAL_COUNT = 26,           /* writing a board: a count outside its limits */
+    LFA_REFUSAL_COUNT = 26,           /* writing a board: no, or too many, components or CPUs */
     LFA_REFUSAL_NO_BOARD_ROOM = 27,   /* writing a board: no room for its bytes */
     LFA_REFUSAL_LOG_TOO_SHORT = 30,   /* log: under 51 bytes left */
     LFA_REFUSAL_FIELD = 31,           /* log: unused field not 0, or a number too large for its field (above) */
