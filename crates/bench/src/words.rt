@@ -8,8 +8,8 @@ use codes::RELEASED;
 use codes::RETURNED;
 use libc::STDOUT_FILENO;
 use log_record::LogRecord;
+use log_record::Refusal;
 use reader::Started;
-use rules::Refusal;
 use trace::Replayed;
 
 pub(crate) fn text(s: &[u8]) {
@@ -39,17 +39,18 @@ fn logged(l: LogRecord) {
     number(l.w6);
 }
 
-fn refused(x: Refusal) {
+fn refused(refusal: u64) {
     text(b"refused-");
-    number(rules::number(x));
+    number(refusal);
     text(b" 0");
 }
 
 // The agent's outcome and word 6.
 pub(crate) fn replayed(x: Replayed) {
     match x {
-        Replayed::Refused(x) => refused(x),
+        Replayed::Refused(x) => refused(rules::number(x)),
         Replayed::Logged(l) => logged(l),
+        Replayed::Unknown => refused(log_record::number(Refusal::Unknown)),
     }
 }
 
