@@ -22,8 +22,8 @@ use log_record::CALL;
 use log_record::IMAGE;
 use log_record::LogRecord;
 use log_record::PRIME_REPORT;
+use log_record::Refusal;
 use reader::Started;
-use rules::Refusal;
 use trace::Replayed;
 
 // From here on a number of 64 bits is a negative one.
@@ -120,17 +120,18 @@ pub(crate) fn logged(l: LogRecord) {
     signed(l.w6);
 }
 
-fn refused(x: Refusal) {
+fn refused(refusal: u64) {
     text(b"refused-");
-    number(rules::number(x));
+    number(refusal);
     text(b" 0");
 }
 
 // The agent's outcome and word 6.
 pub(crate) fn replayed(x: Replayed) {
     match x {
-        Replayed::Refused(x) => refused(x),
+        Replayed::Refused(x) => refused(rules::number(x)),
         Replayed::Logged(l) => logged(l),
+        Replayed::Unknown => refused(log_record::number(Refusal::Unknown)),
     }
 }
 
