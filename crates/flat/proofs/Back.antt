@@ -49,7 +49,7 @@ module _ (d : List ℕ) (f : FlatBoard) (typed : Described (boardIn f)) where
   described-fresh = go (hasFlags f) refl (writableOf (boardIn f)) refl (ltb (length d) (lengthOf (boardIn f .components))) refl
     where
       go : (a : Bool) → hasFlags f ≡ a → (v : Ruling) → writableOf (boardIn f) ≡ v → (t : Bool) → ltb (length d) (lengthOf (boardIn f .components)) ≡ t → describedOf (length d) f .refusal ≡ 0 → Fresh
-      go false p v q t u h = let same : 22 ≡ 0 = rw p at h in never (omega arith)
+      go false p v q t u h = let same : _≡_ {A = ℕ} 22 0 = rw p at h in never (omega arith)
       go true p (Broken x) q t u h = absurd (eqb-false (boardNumber x) 0 (board-some x) (rw (p, q) at h))
-      go true p Kept q true u h = let same : 27 ≡ 0 = rw (p, q, u) at h in never (omega arith)
+      go true p Kept q true u h = let same : _≡_ {A = ℕ} 27 0 = rw (p, q, u) at h in never (omega arith)
       go true p Kept q false u h = (rw p, rw (q, u, reads-back (boardIn f) typed q))
