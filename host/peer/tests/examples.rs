@@ -188,7 +188,10 @@ fn postponed() {
         activate(0, 0),
         activate(1, 0),
     ]);
-    assert_eq!(bench.good(&activated(0, 2)), released(3, status(2), 0));
+    assert_eq!(
+        bench.good(&activated(0, 2)),
+        released(set([0, 1]), status(2), 0)
+    );
     assert_eq!(bench.record.state, State::Ready(0));
     assert_eq!(bench.good(&activate(1, 0)), only(Caller::Held));
 }
@@ -219,7 +222,7 @@ fn gathered_set_is_forgotten_by_a_cancel() {
     assert_eq!(
         answer.release,
         Release::Returned {
-            cpus: 3,
+            cpus: set([0, 1]),
             x0: status(11),
             x1: 0
         }

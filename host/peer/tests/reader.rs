@@ -65,7 +65,9 @@ fn nothing_starts_after_a_cpu_that_no_set_has() {
     // A log that no agent writes: a CPU_ON of such a number that returned 0.
     let bench = Bench::in_state(State::Ready(RESET)).all(&[activate(0, RESET), activate(1, RESET)]);
     let described = described(&bench.record.board);
-    let Event::Call(last) = activate(2, RESET) else { panic!() };
+    let Event::Call(last) = activate(2, RESET) else {
+        panic!()
+    };
     let starts = |target: u64, given: u64| {
         let on = call(2, Function::CpuOn, [target, GOOD, 0, 0]);
         let mut bytes = [0; 51];
@@ -100,7 +102,7 @@ fn a_cancel_releases_only_those_held_for_activate() {
     let held: Vec<_> = (0..4)
         .map(|place| held_at(&described, &log, place).unwrap())
         .collect();
-    assert_eq!(held, [0, 1, 3, 1]);
+    assert_eq!(held, [set([]), set([0]), set([0, 1]), set([0])]);
 }
 
 /// What events are made of.

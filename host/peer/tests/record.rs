@@ -40,15 +40,11 @@ fn uuid_is_its_own(board: &Board, id: u64) -> bool {
     id >= board.components || !(0..board.components).any(twice)
 }
 
-fn has(set: u64, cpu: u64) -> bool {
-    set >> cpu & 1 == 1
-}
-
 /// A CPU is on, all that are on exist, and all that are held are on.
 fn power_fits(record: &Record) -> bool {
-    record.on != 0
-        && !(record.board.cpus..64).any(|cpu| has(record.on, cpu))
-        && record.held & record.on == record.held
+    !record.on.is_empty()
+        && !(record.board.cpus..64).any(|cpu| record.on.has(cpu))
+        && record.held.members().all(|cpu| record.on.has(cpu))
 }
 
 /// The state's component is pending, not below its SVN, and optional where alone.
@@ -66,7 +62,7 @@ fn state_fits(record: &Record) -> bool {
 
 /// As many CPUs are held as the state needs.
 fn held_fit(record: &Record) -> bool {
-    let (held, on) = (record.held.count_ones(), record.on.count_ones());
+    let (held, on) = (record.held.count(), record.on.count());
     match record.state {
         State::Preparing(_) | State::Alone(_) => held == 1,
         State::Gathering(_) => 0 < held && held < on,
@@ -89,7 +85,7 @@ fn keeps_entries(record: &Record) -> bool {
 fn entry_fits(record: &Record, cpu: u64) -> bool {
     let board = &record.board;
     let (entry, context) = (record.entry[cpu as usize], record.context[cpu as usize]);
-    if keeps_entries(record) && has(record.held, cpu) {
+    if keeps_entries(record) && record.held.has(cpu) {
         entry % 4 == 0 && board.first <= entry && entry <= board.last
     } else {
         entry == 0 && context == 0
@@ -155,6 +151,15 @@ fn any_state(dice: &mut Dice, small: u64, word: u64) -> State {
     }
 }
 
+/// The set with a CPU that it has not, or without one that it has.
+fn flipped(set: CpuSet, cpu: u64) -> CpuSet {
+    if set.has(cpu) {
+        set.without(CpuSet::only(cpu))
+    } else {
+        set.with(cpu)
+    }
+}
+
 /// Changes one field.
 fn damage(record: &mut Record, dice: &mut Dice) {
     let word = dice.one_of(&WORDS);
@@ -175,8 +180,8 @@ fn damage(record: &mut Record, dice: &mut Dice) {
         10 => record.pending[component] ^= true,
         11 => record.version[component] = word as u32,
         12 => record.state = any_state(dice, small, word),
-        13 => record.on ^= 1 << dice.below(64),
-        14 => record.held ^= 1 << dice.below(5),
+        13 => record.on = flipped(record.on, dice.below(64)),
+        14 => record.held = flipped(record.held, dice.below(5)),
         15 => record.entry[cpu] = word,
         16 => record.context[cpu] = word,
         _ => record.informed ^= true,
@@ -327,7 +332,7 @@ fn short_tables() {
     }
     let four = record.step(&events[1], &mut [0; 4], &mut [0; 4]);
     assert_eq!(four, Ok(returned(65536)));
-    record.on = 0;
+    record.on = CpuSet::default();
     for event in &events {
         let refusal = record.step(event, &mut [], &mut []).unwrap_err();
         assert_eq!(refusal.number(), 9);

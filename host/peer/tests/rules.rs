@@ -75,7 +75,7 @@ fn prime_in_idle() {
     assert_eq!(bench.good(&prime(2, OPTIONAL)), returned(status(7)));
     assert_eq!(bench.good(&prime(2, RESET)), only(Caller::PrimeStarted));
     assert_eq!(bench.record.state, State::Preparing(RESET));
-    assert_eq!(bench.record.held, 4);
+    assert_eq!(bench.record.held, set([2]));
 }
 
 #[test]
@@ -84,7 +84,7 @@ fn half_prepared_takes_only_its_own() {
     bench.good(&image(RESET, 5));
     assert_eq!(bench.good(&prime(1, RESET)), returned(status(7)));
     assert_eq!(bench.good(&prime(1, PLAIN)), only(Caller::PrimeStarted));
-    assert_eq!(bench.record.held, 2);
+    assert_eq!(bench.record.held, set([1]));
 }
 
 #[test]
@@ -153,7 +153,7 @@ fn cancel_column() {
             State::Idle | State::Dead => (returned(0), state),
             State::Preparing(_) | State::Alone(_) => stays(state, 2),
             State::Gathering(_) => {
-                let mut answer = released(1, status(11), 0);
+                let mut answer = released(set([0]), status(11), 0);
                 answer.caller = Caller::Returned([0; 4]);
                 (answer, State::Idle)
             }
@@ -182,15 +182,15 @@ fn power_column() {
         if frozen {
             assert_eq!(bench.good(&cpu_off(1)), returned(status(3)));
             assert_eq!(bench.good(&cpu_on(1, 3)), returned(status(6)));
-            assert_eq!(bench.record.on, 7);
+            assert_eq!(bench.record.on, set(0..3));
         } else {
             let answer = bench.good(&cpu_on(1, 3));
             assert_eq!(answer.caller, Caller::Returned([0; 4]));
-            assert_eq!(answer.release, Release::Resumed(8));
+            assert_eq!(answer.release, Release::Resumed(set([3])));
             assert_eq!((bench.entries[3], bench.contexts[3]), (GOOD, 77));
-            assert_eq!(bench.record.on, 15);
+            assert_eq!(bench.record.on, set(0..4));
             assert_eq!(bench.good(&cpu_off(1)), only(Caller::Gone));
-            assert_eq!(bench.record.on, 13);
+            assert_eq!(bench.record.on, set([0, 2, 3]));
         }
         // Order: no such target, bad entry, already on, frozen.
         let mut on = |target, entry| bench.good(&call(2, Function::CpuOn, [target, entry, 0, 0]));
@@ -209,7 +209,10 @@ fn the_last_cpu_stays_on() {
     assert_eq!(bench.good(&cpu_off(0)), only(Caller::Gone));
     assert_eq!(bench.good(&cpu_off(1)), returned(status(3)));
     assert_eq!(bench.step(&cpu_off(0)), Err(Refusal::CpuOff));
-    assert_eq!(bench.good(&cpu_on(1, 0)).release, Release::Resumed(1));
+    assert_eq!(
+        bench.good(&cpu_on(1, 0)).release,
+        Release::Resumed(set([0]))
+    );
 }
 
 #[test]
@@ -218,7 +221,7 @@ fn a_held_cpu_keeps_the_board_on() {
     let mut bench = Bench::in_state(State::Preparing(PLAIN));
     assert_eq!(bench.good(&cpu_off(1)), only(Caller::Gone));
     assert_eq!(bench.good(&cpu_off(2)), only(Caller::Gone));
-    assert_eq!(bench.good(&primed(PLAIN, 0)), released(1, 0, 0));
+    assert_eq!(bench.good(&primed(PLAIN, 0)), released(set([0]), 0, 0));
 }
 
 #[test]
@@ -227,9 +230,9 @@ fn prime_reports() {
         let mut bench = Bench::in_state(State::Preparing(RESET));
         let answer = bench.step(&primed(RESET, code));
         let (expected, next) = match code {
-            0 => (Ok(released(1, 0, 0)), State::Ready(RESET)),
-            1 => (Ok(released(1, 0, 1)), State::HalfPrepared(RESET)),
-            3 | 4 | 6 | 11 => (Ok(released(1, status(code), 0)), State::Idle),
+            0 => (Ok(released(set([0]), 0, 0)), State::Ready(RESET)),
+            1 => (Ok(released(set([0]), 0, 1)), State::HalfPrepared(RESET)),
+            3 | 4 | 6 | 11 => (Ok(released(set([0]), status(code), 0)), State::Idle),
             _ => (Err(Refusal::CodeNotAllowed), State::Preparing(RESET)),
         };
         assert_eq!((answer, bench.record.state), (expected, next), "{code}");
@@ -238,7 +241,7 @@ fn prime_reports() {
 }
 
 /// The answer to an activate report in a state, and the state after it.
-fn after_activation(state: State, held: u64, code: u64) -> (Result<Answer, Refusal>, State) {
+fn after_activation(state: State, held: CpuSet, code: u64) -> (Result<Answer, Refusal>, State) {
     let id = state.component().unwrap();
     match (code, state) {
         (0, _) => (Ok(released(held, 0, 0)), State::Idle),
@@ -339,7 +342,7 @@ fn a_full_board_gathers() {
     assert_eq!(bench.good(&activate(0, 1)), only(Caller::ActivationStarted));
     assert_eq!(
         bench.good(&activated(1, 12)).release,
-        Release::Resumed(u64::MAX)
+        Release::Resumed(set(0..64))
     );
     for cpu in 0..64 {
         assert_eq!(bench.entries[cpu as usize], GOOD + 4 * cpu);

@@ -103,14 +103,18 @@ pub fn only(caller: Caller) -> Answer {
     }
 }
 
-pub fn released(cpus: u64, x0: u64, x1: u64) -> Answer {
+pub fn set(cpus: impl IntoIterator<Item = u64>) -> CpuSet {
+    cpus.into_iter().collect()
+}
+
+pub fn released(cpus: CpuSet, x0: u64, x1: u64) -> Answer {
     Answer {
         caller: Caller::Nothing,
         release: Release::Returned { cpus, x0, x1 },
     }
 }
 
-pub fn resumed(cpus: u64) -> Answer {
+pub fn resumed(cpus: CpuSet) -> Answer {
     Answer {
         caller: Caller::Nothing,
         release: Release::Resumed(cpus),
@@ -156,10 +160,10 @@ impl Bench {
                 self.log.extend_from_slice(&bytes);
                 let resumed = match answer.release {
                     Release::Resumed(cpus) => cpus,
-                    _ => 0,
+                    _ => CpuSet::default(),
                 };
                 for cpu in 0..64 {
-                    if resumed >> cpu & 1 == 0 {
+                    if !resumed.has(cpu as u64) {
                         assert_eq!(self.entries[cpu], before.entries[cpu]);
                         assert_eq!(self.contexts[cpu], before.contexts[cpu]);
                     }

@@ -75,6 +75,14 @@ fn flat_board(board: &Board) -> flat::Board {
     }
 }
 
+pub fn flat_cpus(cpus: CpuSet) -> flat::Cpus {
+    cpus.members().collect()
+}
+
+pub fn peer_cpus(cpus: flat::Cpus) -> CpuSet {
+    cpus.iter().collect()
+}
+
 pub fn flat_record(record: &Record) -> flat::Record {
     let (state, subject) = state_numbers(record.state);
     flat::Record {
@@ -83,8 +91,8 @@ pub fn flat_record(record: &Record) -> flat::Record {
         version: record.version,
         state,
         subject,
-        on: flat::Cpus { bits: record.on },
-        held: flat::Cpus { bits: record.held },
+        on: flat_cpus(record.on),
+        held: flat_cpus(record.held),
         entry: record.entry,
         context: record.context,
         informed: record.informed.into(),
@@ -129,8 +137,8 @@ pub fn peer_record(record: &flat::Record) -> Option<Record> {
         pending,
         version: record.version,
         state: state(record.state, record.subject)?,
-        on: record.on.bits,
-        held: record.held.bits,
+        on: peer_cpus(record.on),
+        held: peer_cpus(record.held),
         entry: record.entry,
         context: record.context,
         informed: flag(record.informed)?,
@@ -151,8 +159,8 @@ fn zero_record() -> flat::Record {
         version: [0; MAX_COMPONENTS],
         state: 0,
         subject: 0,
-        on: flat::Cpus { bits: 0 },
-        held: flat::Cpus { bits: 0 },
+        on: flat::Cpus::default(),
+        held: flat::Cpus::default(),
         entry: [0; MAX_CPUS],
         context: [0; MAX_CPUS],
         informed: 0,
@@ -253,9 +261,9 @@ pub fn flat_refused(refusal: u64) -> flat::Answer {
     }
 }
 
-fn flat_freed(cpus: u64, x0: u64, x1: u64) -> flat::Freed {
+fn flat_freed(cpus: CpuSet, x0: u64, x1: u64) -> flat::Freed {
     flat::Freed {
-        cpus: flat::Cpus { bits: cpus },
+        cpus: flat_cpus(cpus),
         x0,
         x1,
     }
@@ -301,7 +309,7 @@ pub fn peer_answer(answer: &flat::Answer) -> Option<Answer> {
         _ => Caller::Nothing,
     };
     let flat::Freed { cpus, x0, x1 } = answer.freed;
-    let cpus = cpus.bits;
+    let cpus = peer_cpus(cpus);
     let release = match answer.release {
         1 => Release::Returned { cpus, x0, x1 },
         2 => Release::Resumed(cpus),

@@ -191,7 +191,7 @@ fn entries_at_the_limits() {
         let board = peer_record(&sample.record).expect("a good record").board;
         for _ in 0..200 {
             let mut damaged = sample.record;
-            let cpu = dice.member(damaged.held.bits).expect("one is held");
+            let cpu = dice.member(damaged.held.iter()).expect("one is held");
             damaged.entry[cpu as usize] = entry(&mut dice, &board);
             damaged.context[cpu as usize] = dice.word();
             let tables = Tables::long(&mut dice, board.cpus);

@@ -62,16 +62,12 @@ impl Dice {
         list[self.place(list.len())]
     }
 
-    /// One CPU of a set, if it has any.
-    pub fn member(&mut self, mut set: u64) -> Option<u64> {
-        let size = set.count_ones();
-        if size == 0 {
-            return None;
+    /// One of the members of a set, if it has any.
+    pub fn member(&mut self, mut members: impl Iterator<Item = u64> + Clone) -> Option<u64> {
+        match members.clone().count() {
+            0 => None,
+            size => members.nth(self.place(size)),
         }
-        for _ in 0..self.below(u64::from(size)) {
-            set &= set - 1;
-        }
-        Some(u64::from(set.trailing_zeros()))
     }
 
     /// Fills bytes at random.

@@ -360,8 +360,9 @@ fn resets_logged_with_an_x0() {
         });
         let x0 = 1 << dice.below(64);
         let x0 = dice.one_of(&[0, x0, status(12)]);
-        let returned = Release::Returned { cpus: 1, x0, x1: 0 };
-        let release = dice.one_of(&[Release::Nobody, returned, Release::Resumed(1)]);
+        let cpus = CpuSet::only(0);
+        let returned = Release::Returned { cpus, x0, x1: 0 };
+        let release = dice.one_of(&[Release::Nobody, returned, Release::Resumed(cpus)]);
         let answer = Answer {
             caller: Caller::Nothing,
             release,

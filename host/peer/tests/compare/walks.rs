@@ -105,7 +105,7 @@ impl Walk {
         };
         let peer = &self.pair.peer;
         let last = matches!(peer.state, State::Ready(_) | State::Gathering(_))
-            && (peer.on & !peer.held).count_ones() == 1;
+            && peer.on.without(peer.held).count() == 1;
         let share = if last { 6 } else { 1 };
         if dice.below(self.records() as u64 + 2) >= share {
             return None;

@@ -124,10 +124,18 @@ fn nothing_starts_after_a_cpu_that_no_set_has() {
         let mut on = host.log[..RECORD_BYTES].to_vec();
         on[target] = 64;
         let log = [before, &on, after].concat();
-        assert_eq!(starts_at(&host.board, &log, 6, &last), Ok(None), "place {place}");
+        assert_eq!(
+            starts_at(&host.board, &log, 6, &last),
+            Ok(None),
+            "place {place}"
+        );
         on[target] = 1;
         let log = [before, &on, after].concat();
-        assert_eq!(starts_at(&host.board, &log, 6, &last), Ok(Some(UPDATED)), "place {place}");
+        assert_eq!(
+            starts_at(&host.board, &log, 6, &last),
+            Ok(Some(UPDATED)),
+            "place {place}"
+        );
     }
 }
 
