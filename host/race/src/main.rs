@@ -1,14 +1,14 @@
 //! The library beside the peer: events, replayed records and log bytes a
 //! second, as a Markdown table. With the argument `quick`, few short rounds.
 
-mod race;
+mod turns;
 mod update;
 
 use lfa::flat;
 use peer::{prepared_at, starts_at, MAX_CPUS, MAX_RECORDS};
-use race::{race, Pace, Times};
 use std::hint::black_box;
 use std::time::Duration;
+use turns::{race, Pace, Times};
 use update::{flat_call, Update};
 
 const FULL: Pace = Pace {
