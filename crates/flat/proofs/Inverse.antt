@@ -90,7 +90,7 @@ unfolding boardIn flatBoard componentsIn flatComponents
 board-back b e =
     rw (there-back mostComponents flatComponent componentIn (b .component) absent absentFlat e (λ i h. component-back (getD (b .component) i absent)))
 
-pub board-there : (b : FlatBoard) → length (b .component) ≡ mostComponents → areFlatComponents (b .component) ≡ true → flatBoard (boardIn b) ≡ b
+pub board-there : (b : FlatBoard) → length (b .component) ≡ mostComponents → areFlatComponents mostComponents (b .component) ≡ true → flatBoard (boardIn b) ≡ b
 unfolding boardIn flatBoard componentsIn flatComponents
 board-there b e are =
     rw (there-back mostComponents componentIn flatComponent (b .component) absentFlat absent e (λ i h. component-there (getD (b .component) i absentFlat) (all-at mostComponents _ are i h)))
@@ -108,7 +108,7 @@ module _ (r : Record) (components : length (r .board .component) ≡ mostCompone
   pub flat-is : isFlat (flatOf r) ≡ true
   unfolding isFlat flatWith flatBoard flatComponents
   flat-is =
-      let cs : areFlatComponents (flatComponents (r .board .component)) ≡ true
+      let cs : areFlatComponents mostComponents (flatComponents (r .board .component)) ≡ true
       = all-of mostComponents _ (λ i h. rw (getD-firsts (λ k. flatComponent (getD (r .board .component) k absent)) mostComponents i absentFlat h) (component-is (getD (r .board .component) i absent))) in
       let ps : areFlags (flatFlags (r .pending)) ≡ true
       = all-of mostComponents _ (λ i h. rw (getD-firsts (λ k. digitOf (getD (r .pending) k false)) mostComponents i 0 h) (flag-is (getD (r .pending) i false))) in
@@ -124,7 +124,7 @@ module _ (r : Record) (components : length (r .board .component) ≡ mostCompone
 pub flat-there : (f : FlatRecord) → SizedFlat f → isFlat f ≡ true → flatOf (recordIn f) ≡ f
 unfolding isFlat recordIn flatWith
 flat-there f z e =
-    let cs = areFlatComponents (f .board .component) in
+    let cs = areFlatComponents mostComponents (f .board .component) in
     let ps = areFlags (f .pending) in
     let st = isState (f .state) (f .subject) in
     let rest = and-right cs (ps && (st && isFlag (f .informed))) e in

@@ -1,15 +1,27 @@
 -- Each public function's promise leaves one outcome. Assumes nothing.
 use Rattle.basics.proofs.Pin.{OneOutcome, same, just}
+use Rattle.flat.proofs.abi.Kinds as abi-kinds
+use Rattle.flat.proofs.abi.Reads as abi-reads
+use Rattle.flat.proofs.describe.Kinds as describe-kinds
+use Rattle.flat.proofs.describe.Reads as describe-reads
 use Rattle.flat.proofs.fresh.Kinds as fresh-kinds
 use Rattle.flat.proofs.fresh.Reads as fresh-reads
 use Rattle.flat.proofs.step.Kinds as step-kinds
 use Rattle.flat.proofs.step.Reads as step-reads
 use Rattle.flat.proofs.log.Kinds as log-kinds
 use Rattle.flat.proofs.log.Reads as log-reads
+use Rattle.flat.proofs.read_record.Kinds as read-record-kinds
+use Rattle.flat.proofs.read_record.Reads as read-record-reads
 use Rattle.flat.proofs.prepared.Kinds as prepared-kinds
 use Rattle.flat.proofs.prepared.Reads as prepared-reads
 use Rattle.flat.proofs.starts.Kinds as starts-kinds
 use Rattle.flat.proofs.starts.Reads as starts-reads
+
+pub abi-pinned : OneOutcome 0 abi-kinds.ps abi-kinds.r abi-reads.Post
+abi-pinned κs a z z′ ws ws′ p q = just p q
+
+pub describe-pinned : OneOutcome 1 describe-kinds.ps describe-kinds.r describe-reads.Post
+describe-pinned κs a z z′ ws ws′ p q = (same (p .0) (q .0), λ i. (same (p .1) (q .1) i, (tt, tt)))
 
 pub fresh-pinned : OneOutcome 1 fresh-kinds.ps fresh-kinds.r fresh-reads.Post
 fresh-pinned κs a z z′ ws ws′ p q = just p q
@@ -19,6 +31,9 @@ step-pinned κs a z z′ ws ws′ p q = (same (p .0) (q .0), λ i. (tt, (tt, (sa
 
 pub log-pinned : OneOutcome 1 log-kinds.ps log-kinds.r log-reads.Post
 log-pinned κs a z z′ ws ws′ p q = (same (p .0) (q .0), λ i. (same (p .1) (q .1) i, (tt, (tt, tt))))
+
+pub read-record-pinned : OneOutcome 1 read-record-kinds.ps read-record-kinds.r read-record-reads.Post
+read-record-pinned κs a z z′ ws ws′ p q = just p q
 
 pub prepared-pinned : OneOutcome 1 prepared-kinds.ps prepared-kinds.r prepared-reads.Post
 prepared-pinned κs a z z′ ws ws′ p q = just p q

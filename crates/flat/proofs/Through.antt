@@ -123,7 +123,7 @@ module _ (f : FlatRecord) (flat : isFlat f ≡ true) (e : FlatEvent) (known : Ev
   board-stays : SizedFlat f → f .board ≡ flatBoard (own .rec .board)
   unfolding isFlat recordIn
   board-stays z =
-      sym (ap flatBoard (step-board (recordIn f) known n m) ∙ board-there (f .board) (z .components) (and-left (areFlatComponents (f .board .component)) _ flat))
+      sym (ap flatBoard (step-board (recordIn f) known n m) ∙ board-there (f .board) (z .components) (and-left (areFlatComponents mostComponents (f .board .component)) _ flat))
 
   -- the next record is the agent's through the conversion, and so is the answer
   pub record-through : SizedFlat f → stepOf f e n m .rec ≡ flatOf (own .rec)

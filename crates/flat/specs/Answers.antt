@@ -14,11 +14,15 @@ use Rattle.agent.specs.declared.Release.{Release}
 use Rattle.agent.specs.declared.Release.the-variants as release
 use Rattle.codes.specs.Outcomes.{returned, held, primeStarted, activationStarted, gone}
 use Rattle.log_record.specs.Rules.{callKind, primeKind, activateKind, imageKind, numberOf as logNumber}
-use Rattle.log_record.specs.Packed.{lengthIn}
-use Rattle.log_record.specs.Numbers.{refusalIn}
+use Rattle.board.specs.Packed.{lengthIn as boardLength}
+use Rattle.board.specs.Numbers.{refusalIn as boardRefusal}
+use Rattle.board.specs.declared.Written.{Written as BoardWritten}
+use Rattle.log_record.specs.Packed.{lengthIn, skippedBy}
+use Rattle.log_record.specs.Numbers.{refusalIn, refusalRead}
 use Rattle.log_record.specs.declared.LogRecord.{LogRecord}
+use Rattle.log_record.specs.declared.ReadRecord.{ReadRecord}
 use Rattle.log_record.specs.declared.Written.{Written}
-use Rattle.logbook.specs.Log.{blank}
+use Rattle.logbook.specs.Log.{blank, said}
 use Rattle.logbook.specs.Numbers.{foundIn as primedIn, componentIn as primedComponent, Numbers as LogNumbers, numbersOf as logNumbers}
 use Rattle.logbook.specs.declared.Answer.{Answer as LogAnswer}
 use Rattle.logbook.specs.declared.Flaw.{Flaw}
@@ -31,6 +35,7 @@ use Rattle.flat.specs.declared.FlatAnswer.{FlatAnswer}
 use Rattle.flat.specs.declared.FlatEvent.{FlatEvent}
 use Rattle.flat.specs.declared.FlatFound.{FlatFound}
 use Rattle.flat.specs.declared.FlatPrepared.{FlatPrepared}
+use Rattle.flat.specs.declared.FlatRead.{FlatRead}
 use Rattle.flat.specs.declared.FlatStarted.{FlatStarted}
 use Rattle.flat.specs.declared.FlatWritten.{FlatWritten}
 use Rattle.flat.specs.declared.answers.Read.{Read}
@@ -88,6 +93,13 @@ loggedIn e a = pick (eqb (a .refusal) 0) (loggedBy (eventIn e) a) blank
 
 abbrev pub writtenBy : Written → FlatWritten
 writtenBy w = record { refusal = refusalIn w; bytes = lengthIn w }
+
+abbrev pub describedBy : BoardWritten → FlatWritten
+describedBy w = record { refusal = boardRefusal w; bytes = boardLength w }
+
+-- ---- a log record as it was read; zeros with a refusal
+abbrev pub readBy : ReadRecord → FlatRead
+readBy r = record { refusal = refusalRead r; bytes = skippedBy r; rec = said r }
 
 -- ---- what questions find
 abbrev pub foundOf : ℕ → FlatFound

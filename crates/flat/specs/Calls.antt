@@ -4,11 +4,14 @@ use mathlib.Core.List.{List}
 use lib.Dec.{ltb}
 use Rattle.basics.specs.Choice.{pick}
 use Rattle.codes.specs.declared.Call.{Call}
+use Rattle.board.specs.Packed as board
 use Rattle.board.specs.Packed.{readOf}
 use Rattle.board.specs.Numbers.{refusalOf}
 use Rattle.board.specs.declared.Verdict.{Verdict}
 use Rattle.board.specs.declared.Verdict.the-variants.{Accepted, Refused}
 use Rattle.board.specs.declared.Board.{Board}
+use Rattle.board.specs.declared.Refusal.the-variants.{ReservedBit}
+use Rattle.board.specs.declared.Written.the-variants.{Nothing}
 use Rattle.board_record.specs.Record.{freshOf}
 use Rattle.board_record.specs.WellFormed.{wellFormed}
 use Rattle.board_record.specs.declared.Record.{Record}
@@ -21,18 +24,33 @@ use Rattle.log_record.specs.Rules.{numberOf as logNumber}
 use Rattle.log_record.specs.declared.Refusal.the-variants as log-refusal
 use Rattle.logbook.specs.Prepared.{preparedAt}
 use Rattle.reader.specs.Starts.{startsAt}
-use Rattle.flat.specs.Answers.{eventIn, refusedAnswer, answerOf, loggedIn, writtenBy, preparedBy, startedBy}
-use Rattle.flat.specs.Records.{flatWith, flatOf, recordIn, isFlat, zeroRecord}
+use Rattle.flat.specs.Answers.{eventIn, refusedAnswer, answerOf, loggedIn, writtenBy, describedBy, readBy, preparedBy, startedBy}
+use Rattle.flat.specs.Records.{flatWith, flatOf, boardIn, recordIn, isFlat, hasFlags, zeroRecord}
+use Rattle.flat.specs.declared.FlatAbi.{FlatAbi}
 use Rattle.flat.specs.declared.FlatAnswer.{FlatAnswer}
+use Rattle.flat.specs.declared.FlatBoard.{FlatBoard}
 use Rattle.flat.specs.declared.FlatEvent.{FlatEvent}
 use Rattle.flat.specs.declared.FlatFresh.{FlatFresh}
 use Rattle.flat.specs.declared.FlatPrepared.{FlatPrepared}
+use Rattle.flat.specs.declared.FlatRead.{FlatRead}
 use Rattle.flat.specs.declared.FlatRecord.{FlatRecord}
 use Rattle.flat.specs.declared.FlatStarted.{FlatStarted}
 use Rattle.flat.specs.declared.FlatStepped.{FlatStepped}
 use Rattle.flat.specs.declared.FlatWritten.{FlatWritten}
 use Rattle.flat.specs.declared.answers.Read.{Read}
 use Rattle.flat.specs.declared.answers.Read.the-variants.{Known, Unknown}
+
+-- ---- the library itself: its ABI number, which rises with every layout, and the bytes of what a host lends and gets
+-- (crates/flat/proofs/Sizes.antt shows that these are the bytes of the types)
+unfoldable pub abiOf : FlatAbi
+abiOf = record { number = 1; rec = 2024; event = 88; answer = 80 }
+
+-- ---- a board description from its parts: 22 for a flag that is neither 0 nor 1, then as its writer says
+unfoldable pub describedOf : ℕ → FlatBoard → FlatWritten
+describedOf room b = describedBy (pick (hasFlags b) (board.putOf room (boardIn b)) (Nothing ReservedBit))
+
+unfoldable pub descriptionOf : List ℕ → FlatBoard → List ℕ
+descriptionOf d b = pick (hasFlags b) (board.bufferOf d (boardIn b)) d
 
 -- ---- a fresh record from a packed board
 abbrev pub freshBy : Verdict → Board → FlatRecord
@@ -86,6 +104,10 @@ writtenOf room e a = writtenBy (packed.putOf room (loggedIn e a))
 
 unfoldable pub bufferOf : List ℕ → FlatEvent → FlatAnswer → List ℕ
 bufferOf d e a = packed.bufferOf d (loggedIn e a)
+
+-- ---- the log record that bytes open with
+unfoldable pub readIn : List ℕ → FlatRead
+readIn log = readBy (packed.readOf log)
 
 -- ---- the questions
 unfoldable pub preparedIn : List ℕ → ℕ → FlatPrepared

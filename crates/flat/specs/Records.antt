@@ -87,8 +87,9 @@ flatComponents from = firsts mostComponents (λ i. flatComponent (getD from i ab
 unfoldable pub componentsIn : List FlatComponent → List Component
 componentsIn from = firsts mostComponents (λ i. componentIn (getD from i absentFlat))
 
-abbrev pub areFlatComponents : List FlatComponent → Bool
-areFlatComponents all = allBelow mostComponents (λ i. isFlatComponent (getD all i absentFlat))
+-- the first n of them
+abbrev pub areFlatComponents : ℕ → List FlatComponent → Bool
+areFlatComponents n all = allBelow n (λ i. isFlatComponent (getD all i absentFlat))
 
 -- ---- boards and records
 unfoldable pub flatBoard : Board → FlatBoard
@@ -108,6 +109,13 @@ boardIn b = record {
   last = b .last;
   component = componentsIn (b .component);
 }
+
+-- every flag within the count is 0 or 1; of a count above the limit, every flag of the table
+abbrev pub withinCount : ℕ → ℕ
+withinCount n = pick (ltb n mostComponents) n mostComponents
+
+unfoldable pub hasFlags : FlatBoard → Bool
+hasFlags b = areFlatComponents (withinCount (b .components)) (b .component)
 
 -- a record with its board's numbers
 unfoldable pub flatWith : FlatBoard → Record → FlatRecord
@@ -143,7 +151,7 @@ recordIn f = record {
 -- every flag is 0 or 1, and the state is one
 unfoldable pub isFlat : FlatRecord → Bool
 isFlat f =
-    areFlatComponents (f .board .component)
+    areFlatComponents mostComponents (f .board .component)
     && (areFlags (f .pending)
     && (isState (f .state) (f .subject)
     && isFlag (f .informed)))

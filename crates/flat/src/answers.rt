@@ -3,6 +3,7 @@ use crate::FlatAnswer;
 use crate::FlatEvent;
 use crate::FlatFound;
 use crate::FlatPrepared;
+use crate::FlatRead;
 use crate::FlatRecord;
 use crate::FlatStarted;
 use crate::FlatStepped;
@@ -26,6 +27,8 @@ use log_record::CALL;
 use log_record::IMAGE;
 use log_record::LogRecord;
 use log_record::PRIME_REPORT;
+use log_record::RECORD_BYTES;
+use log_record::ReadRecord;
 use log_record::Written;
 use logbook::Flaw;
 use logbook::Primed;
@@ -33,7 +36,7 @@ use reader::Started;
 use rules::Event;
 use rules::Registers;
 ghost use mathlib.Core.Path.{_≡_};
-ghost use Rattle.flat.specs.Answers.{eventIn, refusedAnswer, answerOf, callerIn, releaseIn, loggedIn, writtenBy, primedFound, foundOf, notFound, startedFound, preparedBy, notStarted, logRefused, startedBy};
+ghost use Rattle.flat.specs.Answers.{eventIn, refusedAnswer, answerOf, callerIn, releaseIn, loggedIn, writtenBy, describedBy, readBy, primedFound, foundOf, notFound, startedFound, preparedBy, notStarted, logRefused, startedBy};
 ghost use Rattle.flat.specs.Calls.{keptWith, throughOf};
 
 // An event, or none of the four.
@@ -171,6 +174,38 @@ pub(crate) fn written(w: Written) -> FlatWritten
         Written::Nothing(x) => FlatWritten {
             refusal: log_record::number(x),
             bytes: 0,
+        },
+    }
+}
+
+pub(crate) fn described(w: board::Written) -> FlatWritten
+    ensures { λ r. ⌜ r ≡ describedBy w ⌝ }
+{
+    match w {
+        board::Written::Bytes(n) => FlatWritten {
+            refusal: 0,
+            bytes: n,
+        },
+        board::Written::Nothing(x) => FlatWritten {
+            refusal: board::number(x),
+            bytes: 0,
+        },
+    }
+}
+
+pub(crate) fn record_read(r: ReadRecord) -> FlatRead
+    ensures { λ f. ⌜ f ≡ readBy r ⌝ }
+{
+    match r {
+        ReadRecord::Record(rec) => FlatRead {
+            refusal: 0,
+            bytes: RECORD_BYTES,
+            rec: rec,
+        },
+        ReadRecord::Refused(x) => FlatRead {
+            refusal: log_record::number(x),
+            bytes: 0,
+            rec: logbook::blank(),
         },
     }
 }

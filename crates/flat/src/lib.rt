@@ -4,7 +4,7 @@ mod records;
 
 ghost use mathlib.Core.Path.{_≡_};
 ghost use lib.ListN.{length};
-ghost use Rattle.flat.specs.Calls.{freshIn, noEvent, stepOf, entriesOf, contextsOf, writtenOf, bufferOf, preparedIn, startedIn};
+ghost use Rattle.flat.specs.Calls.{abiOf, describedOf, descriptionOf, readIn, freshIn, noEvent, stepOf, entriesOf, contextsOf, writtenOf, bufferOf, preparedIn, startedIn};
 use agent::Freed;
 use board::MOST_COMPONENTS;
 use board::MOST_CPUS;
@@ -12,9 +12,28 @@ use board::UUID_BYTES;
 use board_record::Record;
 use codes::Call;
 use cpuset::CpuSet;
+use log_record::LogRecord;
 use rules::Image;
 use rules::Registers;
 use rules::Report;
+
+// The number of this layout, which rises with every other one, and the bytes of its structs.
+const ABI: u64 = 1;
+
+const RECORD_SIZE: u64 = 2024;
+
+const EVENT_SIZE: u64 = 88;
+
+const ANSWER_SIZE: u64 = 80;
+
+// What a host compares before all else: the library's ABI number, and the bytes of a record, an event and an answer.
+#[repr(C)]
+pub struct FlatAbi {
+    pub number: u64,
+    pub rec: u64,
+    pub event: u64,
+    pub answer: u64,
+}
 
 // A component; a flag is 0 or 1.
 #[repr(C)]
@@ -92,6 +111,14 @@ pub struct FlatWritten {
     pub bytes: usize,
 }
 
+// A log record that was read, with how many bytes it took; or the number of the refusal and zeros.
+#[repr(C)]
+pub struct FlatRead {
+    pub refusal: u64,
+    pub bytes: usize,
+    pub rec: LogRecord,
+}
+
 // A component, where found is 1; both are 0 where there is none.
 #[repr(C)]
 pub struct FlatFound {
@@ -114,6 +141,29 @@ pub struct FlatStarted {
     pub refusal: u64,
     pub place: usize,
     pub started: FlatFound,
+}
+
+// Which library this is.
+pub fn abi() -> FlatAbi
+    ensures { λ r. ⌜ r ≡ abiOf ⌝ }
+{
+    FlatAbi {
+        number: ABI,
+        rec: RECORD_SIZE,
+        event: EVENT_SIZE,
+        answer: ANSWER_SIZE,
+    }
+}
+
+// Writes a board's description from its parts at the start of the buffer; bytes not written stay.
+pub fn describe(buf: &mut [u8], b: FlatBoard) -> FlatWritten
+    ensures { λ w. ⌜ w ≡ describedOf (length (now (buf .entry))) b ⌝ }
+    ensures { λ _. ⌜ now (buf .exit) ≡ descriptionOf (now (buf .entry)) b ⌝ }
+{
+    if records::has_flags(b) {
+        return answers::described(board::put_board(buf, records::board(b)));
+    }
+    answers::described(board::Written::Nothing(board::Refusal::ReservedBit))
 }
 
 // The record of a board that was just switched on, from its packed description.
@@ -181,6 +231,13 @@ pub fn log(buf: &mut [u8], e: FlatEvent, a: FlatAnswer) -> FlatWritten
     ensures { λ _. ⌜ now (buf .exit) ≡ bufferOf (now (buf .entry)) e a ⌝ }
 {
     answers::written(log_record::put_record(buf, answers::logged(e, a)))
+}
+
+// The log record that the bytes open with.
+pub fn read_record(log: &[u8]) -> FlatRead
+    ensures { λ r. ⌜ r ≡ readIn (now (log .entry)) ⌝ }
+{
+    answers::record_read(log_record::read_record(log))
 }
 
 // Which component is prepared at a place of a log.

@@ -11,9 +11,11 @@ use board_record::Record;
 use board_record::State;
 use board_record::Subject;
 ghost use mathlib.Core.Path.{_≡_};
+ghost use Prim.Native.Nat.{_≤_};
+ghost use Rattle.board.specs.Description.{mostComponents};
 ghost use Rattle.board.specs.Packed.{digitOf};
 ghost use Rattle.board_record.specs.Record.{subjectNumber};
-ghost use Rattle.flat.specs.Records.{stateIn, isState, flatComponent, componentIn, isFlatComponent, blankFlat, flatComponents, componentsIn, areFlatComponents, flatFlags, flagsIn, areFlags, flatBoard, boardIn, flatWith, flatOf, recordIn, isFlat, zeroRecord};
+ghost use Rattle.flat.specs.Records.{stateIn, isState, flatComponent, componentIn, isFlatComponent, blankFlat, flatComponents, componentsIn, areFlatComponents, withinCount, hasFlags, flatFlags, flagsIn, areFlags, flatBoard, boardIn, flatWith, flatOf, recordIn, isFlat, zeroRecord};
 
 // The number of idle, and of dead, which have no component.
 const IDLE: u64 = 0;
@@ -136,11 +138,13 @@ fn components(from: [FlatComponent; MOST_COMPONENTS]) -> [Component; MOST_COMPON
     all
 }
 
-fn are_flat_components(all: [FlatComponent; MOST_COMPONENTS]) -> bool
-    ensures { λ r. ⌜ r ≡ areFlatComponents all ⌝ }
+// Whether the flags of the first n components are 0 or 1.
+fn are_flat_components(all: [FlatComponent; MOST_COMPONENTS], n: usize) -> bool
+    requires { ⌜ n ≤ mostComponents ⌝ }
+    ensures { λ r. ⌜ r ≡ areFlatComponents n all ⌝ }
 {
     let mut i: usize = 0;
-    while i < MOST_COMPONENTS {
+    while i < n {
         if is_flat_component(all[i]) {
             i += 1;
         } else {
@@ -200,7 +204,27 @@ fn flat_board(b: Board) -> FlatBoard
     }
 }
 
-fn board(b: FlatBoard) -> Board
+// How many places of the table a count names.
+fn within_count(n: u64) -> usize
+    ensures { λ r. ⌜ r ≡ withinCount n ⌝ }
+    ensures { λ r. ⌜ r ≤ mostComponents ⌝ }
+{
+    if n < MOST_COMPONENTS as u64 {
+        n as usize
+    } else {
+        MOST_COMPONENTS
+    }
+}
+
+// Whether every flag within the count is 0 or 1.
+pub(crate) fn has_flags(b: FlatBoard) -> bool
+    ensures { λ r. ⌜ r ≡ hasFlags b ⌝ }
+{
+    let component = b.component;
+    are_flat_components(component, within_count(b.components))
+}
+
+pub(crate) fn board(b: FlatBoard) -> Board
     ensures { λ r. ⌜ r ≡ boardIn b ⌝ }
 {
     let component = b.component;
@@ -275,7 +299,7 @@ pub(crate) fn is_flat(f: FlatRecord) -> bool
     let b = f.board;
     let component = b.component;
     let pending = f.pending;
-    if are_flat_components(component) {
+    if are_flat_components(component, MOST_COMPONENTS) {
         if are_flags(pending) {
             if is_state(f.state, f.subject) {
                 return f.informed <= 1;

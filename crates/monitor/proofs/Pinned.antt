@@ -8,20 +8,35 @@ use ghost.Atoms.{Atoms}
 use contract.Monad.{Fun}
 use Rattle.basics.proofs.Pin.{OneOutcome, OneWalked, gathered, of-both, same, just}
 use Rattle.monitor.proofs.lfa_step as lfa-step
+use Rattle.monitor.proofs.lfa_abi.Kinds as lfa-abi-kinds
+use Rattle.monitor.proofs.lfa_abi.Reads as lfa-abi-reads
+use Rattle.monitor.proofs.lfa_describe.Kinds as lfa-describe-kinds
+use Rattle.monitor.proofs.lfa_describe.Reads as lfa-describe-reads
 use Rattle.monitor.proofs.lfa_fresh.Kinds as lfa-fresh-kinds
 use Rattle.monitor.proofs.lfa_fresh.Reads as lfa-fresh-reads
 use Rattle.monitor.proofs.lfa_log.Kinds as lfa-log-kinds
 use Rattle.monitor.proofs.lfa_log.Reads as lfa-log-reads
+use Rattle.monitor.proofs.lfa_read_record.Kinds as lfa-read-record-kinds
+use Rattle.monitor.proofs.lfa_read_record.Reads as lfa-read-record-reads
 use Rattle.monitor.proofs.lfa_prepared.Kinds as lfa-prepared-kinds
 use Rattle.monitor.proofs.lfa_prepared.Reads as lfa-prepared-reads
 use Rattle.monitor.proofs.lfa_starts.Kinds as lfa-starts-kinds
 use Rattle.monitor.proofs.lfa_starts.Reads as lfa-starts-reads
+
+pub lfa-abi-pinned : OneOutcome 0 lfa-abi-kinds.ps lfa-abi-kinds.r lfa-abi-reads.Post
+lfa-abi-pinned κs a z z′ ws ws′ p q = just p q
+
+pub lfa-describe-pinned : OneOutcome 1 lfa-describe-kinds.ps lfa-describe-kinds.r lfa-describe-reads.Post
+lfa-describe-pinned κs a z z′ ws ws′ p q = (same (p .0) (q .0), λ i. (same (p .1) (q .1) i, (tt, tt)))
 
 pub lfa-fresh-pinned : OneOutcome 1 lfa-fresh-kinds.ps lfa-fresh-kinds.r lfa-fresh-reads.Post
 lfa-fresh-pinned κs a z z′ ws ws′ p q = just p q
 
 pub lfa-log-pinned : OneOutcome 1 lfa-log-kinds.ps lfa-log-kinds.r lfa-log-reads.Post
 lfa-log-pinned κs a z z′ ws ws′ p q = (same (p .0) (q .0), λ i. (same (p .1) (q .1) i, (tt, (tt, tt))))
+
+pub lfa-read-record-pinned : OneOutcome 1 lfa-read-record-kinds.ps lfa-read-record-kinds.r lfa-read-record-reads.Post
+lfa-read-record-pinned κs a z z′ ws ws′ p q = just p q
 
 pub lfa-prepared-pinned : OneOutcome 1 lfa-prepared-kinds.ps lfa-prepared-kinds.r lfa-prepared-reads.Post
 lfa-prepared-pinned κs a z z′ ws ws′ p q = just p q

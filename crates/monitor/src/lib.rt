@@ -1,15 +1,35 @@
 // What a host links: C functions with the prefix lfa_. host/lfa.h says them in C.
 ghost use mathlib.Core.Path.{_≡_};
 ghost use lib.ListN.{length};
-ghost use Rattle.flat.specs.Calls.{freshIn, stepOf, entriesOf, contextsOf, writtenOf, bufferOf, preparedIn, startedIn};
+ghost use Rattle.flat.specs.Calls.{abiOf, describedOf, descriptionOf, readIn, freshIn, stepOf, entriesOf, contextsOf, writtenOf, bufferOf, preparedIn, startedIn};
 use codes::Call;
+use flat::FlatAbi;
 use flat::FlatAnswer;
+use flat::FlatBoard;
 use flat::FlatEvent;
 use flat::FlatFresh;
 use flat::FlatPrepared;
+use flat::FlatRead;
 use flat::FlatRecord;
 use flat::FlatStarted;
 use flat::FlatWritten;
+
+// Which library this is: a host built for another compares this before all else.
+#[no_mangle]
+pub extern "C" fn lfa_abi() -> FlatAbi
+    ensures { λ r. ⌜ r ≡ abiOf ⌝ }
+{
+    flat::abi()
+}
+
+// Writes a board's description from its parts at the start of the buffer; bytes not written stay.
+#[no_mangle]
+pub extern "C" fn lfa_describe(buf: &mut [u8], board: FlatBoard) -> FlatWritten
+    ensures { λ w. ⌜ w ≡ describedOf (length (now (buf .entry))) board ⌝ }
+    ensures { λ _. ⌜ now (buf .exit) ≡ descriptionOf (now (buf .entry)) board ⌝ }
+{
+    flat::describe(buf, board)
+}
 
 // The record of a board that was just switched on, from its packed description.
 #[no_mangle]
@@ -44,6 +64,14 @@ pub extern "C" fn lfa_log(buf: &mut [u8], e: FlatEvent, a: FlatAnswer) -> FlatWr
     ensures { λ _. ⌜ now (buf .exit) ≡ bufferOf (now (buf .entry)) e a ⌝ }
 {
     flat::log(buf, e, a)
+}
+
+// The log record that the bytes open with.
+#[no_mangle]
+pub extern "C" fn lfa_read_record(log: &[u8]) -> FlatRead
+    ensures { λ r. ⌜ r ≡ readIn (now (log .entry)) ⌝ }
+{
+    flat::read_record(log)
 }
 
 // Which component is prepared at a place of a log.

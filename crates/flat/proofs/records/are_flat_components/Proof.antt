@@ -11,10 +11,10 @@ use Rattle.flat.proofs.records.are_flat_components.Statement.{statement
 use Rattle.flat.proofs.records.are_flat_components.Tie as tie
 
 abbrev Inv-loop : tie.InvT-loop
-Inv-loop all i₀ i = (i ≤ mostComponents) × (allBelow i (λ k. isFlatComponent (getD all k absentFlat)) ≡ true)
+Inv-loop n all i₀ i = (i ≤ n) × (allBelow i (λ k. isFlatComponent (getD all k absentFlat)) ≡ true)
 
 abbrev μ-loop : tie.MeasureT-loop
-μ-loop all i₀ i = mostComponents - i
+μ-loop n all i₀ i = n - i
 
 loop-holds : tie.Need-loop-holds Inv-loop μ-loop
 loop-holds c = (search needs, all-none _)
