@@ -1,8 +1,8 @@
-//! The two packed forms and the log's questions.
+//! The peer's writers, and its reader of one log record: what the library's
+//! functions do not show, or not alone.
 
-mod common;
-
-use common::*;
+use common::boards::{described, usual, LAST};
+use common::generate::{ACTIVATE_CODES, PRIME_CODES};
 use peer::*;
 
 fn number<T: std::fmt::Debug>(result: Result<T, Refusal>) -> u64 {
@@ -10,20 +10,8 @@ fn number<T: std::fmt::Debug>(result: Result<T, Refusal>) -> u64 {
 }
 
 #[test]
-fn boards_round_trip() {
-    for components in 1..=32 {
-        for cpus in 1..=64 {
-            let board = board(components, cpus);
-            let bytes = described(&board);
-            assert_eq!(bytes.len() as u64, 18 + 21 * components);
-            assert_eq!(Board::read(&bytes), Ok(board));
-        }
-    }
-}
-
-#[test]
 fn board_bytes() {
-    let mut board = board(2, 4);
+    let mut board = usual(2, 4);
     board.first = 0x0102_0304_0506_0708;
     board.last = 0x1112_1314_1516_1718;
     board.component[1].svn = 0xA1A2_A3A4;
@@ -36,41 +24,8 @@ fn board_bytes() {
 }
 
 #[test]
-fn board_reading_refusals() {
-    let good = described(&board(3, 4));
-    for length in 0..good.len() {
-        assert_eq!(number(Board::read(&good[..length])), 20);
-    }
-    let mut bytes = good.clone();
-    bytes.push(0);
-    bytes[1] |= 1;
-    assert_eq!(number(Board::read(&bytes)), 21);
-    // Everything wrong at once, then put right in the order of refusal.
-    let mut bytes = good.clone();
-    bytes[2] = 0xFF;
-    let (flags, uuid) = (18 + 21 + 16, 18);
-    bytes[flags] |= 0x7F;
-    bytes.copy_within(uuid..uuid + 16, uuid + 42);
-    for bit in 0..5 {
-        bytes[flags] = bytes[flags] & 0xE0 | 1 << bit;
-        assert_eq!(number(Board::read(&bytes)), 22);
-        let mut head = good.clone();
-        head[1] |= 1 << bit;
-        assert_eq!(number(Board::read(&head)), 22);
-    }
-    bytes[flags] &= 0xE0;
-    assert_eq!(number(Board::read(&bytes)), 23);
-    bytes[2] = 0;
-    assert_eq!(number(Board::read(&bytes)), 24);
-    bytes[flags] &= !0x20;
-    assert_eq!(number(Board::read(&bytes)), 25);
-    bytes[uuid] ^= 1;
-    assert!(Board::read(&bytes).is_ok());
-}
-
-#[test]
 fn board_writing_refusals() {
-    let mut wrong = board(2, 4);
+    let mut wrong = usual(2, 4);
     wrong.first = LAST + 1;
     wrong.component[1].optional = true;
     wrong.component[0].uuid = wrong.component[1].uuid;
@@ -103,11 +58,6 @@ fn board_writing_refusals() {
     wrong.component[2] = Component::default();
     assert_eq!(Board::read(&room[..60]), Ok(wrong));
 }
-
-/// The codes of prime reports.
-const PRIME_CODES: [u64; 6] = [0, 1, 3, 4, 6, 11];
-/// The codes of activate reports.
-const ACTIVATE_CODES: [u64; 10] = [0, 1, 2, 3, 4, 5, 6, 9, 11, 12];
 
 fn good_call(outcome: u64) -> LogRecord {
     let given = if outcome == 1 { u64::MAX } else { 0 };
@@ -292,36 +242,6 @@ fn log_reading_refusals() {
 }
 
 #[test]
-fn flaws_have_places() {
-    let bench = Bench::in_state(State::Ready(PLAIN));
-    let records = bench.log.len() / 51;
-    let described = described(&bench.record.board);
-    let flaw = |log: &[u8], place| {
-        let flaw = prepared_at(log, place).unwrap_err();
-        let starts = starts_at(&described, log, place, &Call::default());
-        assert_eq!(starts, Err(flaw));
-        assert_eq!(powered_at(&described, log, place), Err(flaw));
-        assert_eq!(held_at(&described, log, place), Err(flaw));
-        (flaw.refusal.number(), flaw.place)
-    };
-    assert_eq!(flaw(&bench.log, records + 1), (33, 0));
-    assert_eq!(flaw(&bench.log, usize::MAX), (33, 0));
-    assert_eq!(flaw(&bench.log[1..], 0), (33, 0));
-    let mut bad = bench.log.clone();
-    bad[51 * 3 + 2] |= 1;
-    bad[51 * 4] = 0;
-    for place in 0..=records {
-        assert_eq!(flaw(&bad, place), (31, 3));
-    }
-    assert_eq!(flaw(&bad, records + 1), (33, 0));
-    bad[51 * 2] = 0xE0;
-    assert_eq!(flaw(&bad, 0), (32, 2));
-    // The board's refusal comes first.
-    let flaw = starts_at(&described[1..], &bad, 99, &Call::default()).unwrap_err();
-    assert_eq!((flaw.refusal.number(), flaw.place), (20, 0));
-}
-
-#[test]
 fn deciding_records() {
     let cancel = |x0: u64, outcome, given| LogRecord {
         kind: CALL,
@@ -346,27 +266,4 @@ fn deciding_records() {
         let postpones = record.kind == ACTIVATE && record.code == 2;
         assert_eq!(record.is_postponement(), postpones);
     }
-}
-
-#[test]
-fn prepared_through_a_postponement() {
-    let bench = Bench::in_state(State::Together(OPTIONAL)).all(&[activated(OPTIONAL, 2)]);
-    let place = bench.log.len() / 51;
-    assert_eq!(
-        prepared_at(&bench.log, place),
-        Ok(Prepared {
-            component: Some(OPTIONAL),
-            looked: 5
-        })
-    );
-    let log = Log::read(&bench.log).unwrap();
-    assert_eq!(log.before(place - 4).unwrap().prepared().looked, 1);
-    let bench = bench.all(&[cancel(0, OPTIONAL)]);
-    assert_eq!(
-        prepared_at(&bench.log, place + 1),
-        Ok(Prepared {
-            component: None,
-            looked: 1
-        })
-    );
 }

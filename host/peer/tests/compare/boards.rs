@@ -1,22 +1,17 @@
 //! Packed board descriptions, good and bad.
 
-use crate::convert::flat_fresh;
-use crate::described::{board, board_of, described};
-use crate::dice::Dice;
-use lfa::flat;
-use peer::*;
+use common::boards::{any, any_of, described};
+use common::dice::Dice;
+use common::pair::read_board;
 use std::collections::BTreeMap;
 
 /// Reads a description on both sides and tells the refusal, or 0.
 fn compare(dice: &mut Dice, bytes: &[u8]) -> u64 {
     dice.next_step();
-    let fresh = flat::fresh(bytes);
-    dice.same(
-        "fresh",
-        &(bytes, fresh),
-        &(bytes, flat_fresh(Board::read(bytes))),
-    );
-    fresh.refusal
+    match read_board(dice, bytes) {
+        Ok(_) => 0,
+        Err(refusal) => refusal.number(),
+    }
 }
 
 /// Breaks a description in one way or another.
@@ -69,8 +64,11 @@ fn good_boards() {
     let mut dice = Dice::new(2);
     for components in 1..=32 {
         for cpus in 1..=64 {
-            let bytes = described(&board_of(&mut dice, components, cpus));
-            assert_eq!(compare(&mut dice, &bytes), 0, "{dice}");
+            let board = any_of(&mut dice, components, cpus);
+            let bytes = described(&board);
+            assert_eq!(bytes.len() as u64, 18 + 21 * components);
+            dice.next_step();
+            assert_eq!(read_board(&dice, &bytes), Ok(board), "{dice}");
         }
     }
 }
@@ -79,7 +77,7 @@ fn good_boards() {
 fn every_cut_of_a_board() {
     let mut dice = Dice::new(3);
     for _ in 0..20 {
-        let mut bytes = described(&board(&mut dice));
+        let mut bytes = described(&any(&mut dice));
         bytes.resize(bytes.len() + 25, 0);
         for length in 0..bytes.len() {
             compare(&mut dice, &bytes[..length]);
@@ -92,7 +90,7 @@ fn damaged_boards() {
     let mut dice = Dice::new(4);
     let mut refusals = BTreeMap::<u64, u64>::new();
     for _ in 0..40_000 {
-        let mut bytes = described(&board(&mut dice));
+        let mut bytes = described(&any(&mut dice));
         for _ in 0..1 + dice.below(3) {
             if bytes.len() >= 18 {
                 damage(&mut dice, &mut bytes);

@@ -1,7 +1,7 @@
 //! Every clause of a well-formed record, each with what breaks it.
 
-use crate::convert::{flat_cpus, peer_cpus};
-use crate::dice::Dice;
+use common::convert::{flat_cpus, peer_cpus};
+use common::dice::Dice;
 use lfa::flat;
 use peer::{CpuSet, MAX_COMPONENTS, MAX_CPUS};
 use std::ops::Range;

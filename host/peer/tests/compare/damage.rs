@@ -2,12 +2,12 @@
 //! random damage.
 
 use crate::clauses::{any_component, dice_flag, good_entry, keeps_entries, CLAUSES};
-use crate::convert::*;
-use crate::dice::Dice;
-use crate::generate::{self, entry, junk_event, Mood};
-use crate::pair::{flat_form, refused_step, Pair, Tables};
 use crate::tally::Tally;
 use crate::walks::Walk;
+use common::convert::*;
+use common::dice::Dice;
+use common::generate::{self, entry, junk_event, Mood};
+use common::pair::{flat_form, refused_step, Pair, Tables};
 use lfa::flat;
 use peer::*;
 use std::collections::BTreeMap;

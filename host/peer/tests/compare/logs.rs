@@ -1,13 +1,13 @@
 //! Logs of walks, damaged logs and logs that no agent writes, with the
 //! questions at many places; and the writer on random answers.
 
-use crate::convert::*;
-use crate::described::{board, described};
-use crate::dice::Dice;
-use crate::generate::{entry, id, junk_event, noise, ACTIVATE_CODES, FUNCTIONS, PRIME_CODES};
-use crate::pair::{ask, ask_prepared, ask_starts, flat_form, log, question};
 use crate::tally::Tally;
 use crate::walks::Walk;
+use common::boards::{any, described};
+use common::convert::*;
+use common::dice::Dice;
+use common::generate::{entry, id, junk_event, noise, ACTIVATE_CODES, FUNCTIONS, PRIME_CODES};
+use common::pair::{ask, ask_prepared, ask_starts, flat_form, log, question};
 use lfa::flat;
 use peer::*;
 use std::collections::BTreeMap;
@@ -138,7 +138,7 @@ fn every_bit_of_a_log() {
 fn random_logs() {
     let mut dice = Dice::new(12);
     for _ in 0..3000 {
-        let board = board(&mut dice);
+        let board = any(&mut dice);
         let described = described(&board);
         let record = Record::fresh(board);
         let mut log = vec![0; RECORD_BYTES * dice.place(5)];
@@ -273,7 +273,7 @@ fn logs_that_no_agent_writes() {
     let mut started = 0;
     let mut stopped = 0;
     for _ in 0..2000 {
-        let mut board = board(&mut dice);
+        let mut board = any(&mut dice);
         if !dice.one_in(8) {
             board.cpus = board.cpus.min(3);
         }
@@ -438,15 +438,12 @@ fn any_event(dice: &mut Dice, record: &Record) -> flat::Event {
 #[test]
 fn random_answers_logged() {
     let mut dice = Dice::new(16);
-    let record = Record::fresh(board(&mut dice));
+    let record = Record::fresh(any(&mut dice));
     let mut written = 0;
     for _ in 0..200_000 {
         dice.next_step();
         let (event, answer) = (any_event(&mut dice, &record), any_answer(&mut dice));
-        let expected = match (peer_event(&event), peer_answer(&answer)) {
-            (Some(event), Some(answer)) => Some(logged(&event, &answer)),
-            _ => None,
-        };
+        let expected = peer_logged(&event, &answer);
         written += u64::from(log(&mut dice, event, answer, expected).is_some());
     }
     println!("random answers written: {written}");

@@ -1,6 +1,6 @@
 //! Events: mostly with a meaning, sometimes without.
 
-use crate::described::count;
+use crate::boards::count;
 use crate::dice::Dice;
 use lfa::flat;
 use peer::*;

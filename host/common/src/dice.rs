@@ -1,6 +1,6 @@
 //! Repeatable random numbers that know how far a test has come.
 
-use std::fmt::{self, Debug, Display};
+use std::fmt::{self, Display};
 
 /// A generator that counts the steps of its test, for the failure messages.
 pub struct Dice {
@@ -21,6 +21,11 @@ impl Dice {
         let seed = from_env("COMPARE_SEED", 1);
         // Not every failure has the dice at hand.
         println!("COMPARE_SEED={seed}");
+        Self::of(seed, salt)
+    }
+
+    /// The dice of a seed.
+    pub fn of(seed: u64, salt: u64) -> Self {
         Self {
             seed,
             state: seed ^ salt << 56,
@@ -76,15 +81,6 @@ impl Dice {
             let word = self.word().to_le_bytes();
             part.copy_from_slice(&word[..part.len()]);
         }
-    }
-
-    /// Fails with seed and step unless the two are equal.
-    #[track_caller]
-    pub fn same<T: PartialEq + Debug>(&self, what: &str, library: &T, peer: &T) {
-        assert!(
-            library == peer,
-            "{self}: {what}\nlibrary: {library:?}\n   peer: {peer:?}"
-        );
     }
 }
 

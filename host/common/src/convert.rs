@@ -146,15 +146,9 @@ pub fn peer_record(record: &flat::Record) -> Option<Record> {
 }
 
 /// A record with nothing in it, as it comes with a refused board.
-fn zero_record() -> flat::Record {
+pub fn zero_record() -> flat::Record {
     flat::Record {
-        board: flat::Board {
-            components: 0,
-            cpus: 0,
-            first: 0,
-            last: 0,
-            component: Default::default(),
-        },
+        board: flat::Board::default(),
         pending: [0; MAX_COMPONENTS],
         version: [0; MAX_COMPONENTS],
         state: 0,
@@ -228,6 +222,17 @@ pub fn flat_event(event: &Event, rest: flat::Event) -> flat::Event {
     }
 }
 
+pub fn peer_call(call: &flat::Call) -> Call {
+    Call {
+        cpu: call.cpu,
+        x0: call.x0,
+        x1: call.x1,
+        x2: call.x2,
+        x3: call.x3,
+        x4: call.x4,
+    }
+}
+
 /// The peer's event, if the kind is known.
 pub fn peer_event(event: &flat::Event) -> Option<Event> {
     let report = Report {
@@ -235,14 +240,7 @@ pub fn peer_event(event: &flat::Event) -> Option<Event> {
         code: event.report.code,
     };
     Some(match event.kind {
-        CALL => Event::Call(Call {
-            cpu: event.call.cpu,
-            x0: event.call.x0,
-            x1: event.call.x1,
-            x2: event.call.x2,
-            x3: event.call.x3,
-            x4: event.call.x4,
-        }),
+        CALL => Event::Call(peer_call(&event.call)),
         PRIME => Event::Prime(report),
         ACTIVATE => Event::Activate(report),
         IMAGE => Event::Image(Image {
@@ -316,6 +314,11 @@ pub fn peer_answer(answer: &flat::Answer) -> Option<Answer> {
         _ => Release::Nobody,
     };
     (answer.refusal == 0).then_some(Answer { caller, release })
+}
+
+/// The peer's record of an event and its answer, if both are.
+pub fn peer_logged(event: &flat::Event, answer: &flat::Answer) -> Option<LogRecord> {
+    Some(logged(&peer_event(event)?, &peer_answer(answer)?))
 }
 
 pub fn flat_written(written: Result<usize, Refusal>) -> flat::Written {
