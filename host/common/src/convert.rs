@@ -65,7 +65,7 @@ fn flat_component(component: &Component) -> flat::Component {
     }
 }
 
-fn flat_board(board: &Board) -> flat::Board {
+pub fn flat_board(board: &Board) -> flat::Board {
     flat::Board {
         components: board.components,
         cpus: board.cpus,
@@ -118,22 +118,36 @@ fn peer_component(component: &flat::Component) -> Option<Component> {
     })
 }
 
+/// The peer's board with the first so many components.
+fn peer_board(board: &flat::Board, counted: usize) -> Option<Board> {
+    let mut component = [Component::default(); MAX_COMPONENTS];
+    for (each, flat) in component.iter_mut().zip(&board.component[..counted]) {
+        *each = peer_component(flat)?;
+    }
+    Some(Board {
+        components: board.components,
+        cpus: board.cpus,
+        first: board.first,
+        last: board.last,
+        component,
+    })
+}
+
+/// The peer's board to be written, unless a flag is none: one within the
+/// count, or any where the count is over the limit.
+pub fn peer_parts(board: &flat::Board) -> Option<Board> {
+    let counted = board.components.min(MAX_COMPONENTS as u64);
+    peer_board(board, counted as usize)
+}
+
 /// The peer's record, unless its types cannot hold what the flat one says.
 pub fn peer_record(record: &flat::Record) -> Option<Record> {
-    let mut component = [Component::default(); MAX_COMPONENTS];
     let mut pending = [false; MAX_COMPONENTS];
-    for place in 0..MAX_COMPONENTS {
-        component[place] = peer_component(&record.board.component[place])?;
-        pending[place] = flag(record.pending[place])?;
+    for (pending, &number) in pending.iter_mut().zip(&record.pending) {
+        *pending = flag(number)?;
     }
     Some(Record {
-        board: Board {
-            components: record.board.components,
-            cpus: record.board.cpus,
-            first: record.board.first,
-            last: record.board.last,
-            component,
-        },
+        board: peer_board(&record.board, MAX_COMPONENTS)?,
         pending,
         version: record.version,
         state: state(record.state, record.subject)?,
@@ -327,6 +341,36 @@ pub fn flat_written(written: Result<usize, Refusal>) -> flat::Written {
         Err(refusal) => flat::Written {
             refusal: refusal.number(),
             bytes: 0,
+        },
+    }
+}
+
+fn flat_log_record(record: &LogRecord) -> flat::LogRecord {
+    let [w1, w2, w3, w4, w5, w6] = record.words;
+    flat::LogRecord {
+        kind: record.kind,
+        cpu: record.cpu,
+        code: record.code,
+        outcome: record.outcome,
+        w1,
+        w2,
+        w3,
+        w4,
+        w5,
+        w6,
+    }
+}
+
+pub fn flat_read(read: Result<LogRecord, Refusal>) -> flat::Read {
+    match read {
+        Ok(record) => flat::Read {
+            refusal: 0,
+            bytes: RECORD_BYTES,
+            record: flat_log_record(&record),
+        },
+        Err(refusal) => flat::Read {
+            refusal: refusal.number(),
+            ..flat::Read::default()
         },
     }
 }

@@ -6,10 +6,10 @@
 use crate::boards::{described, usual, OPTIONAL, PLAIN, SVN};
 use crate::convert::*;
 use crate::events::*;
-use crate::pair::{ask_prepared, ask_starts, read_board, same, write};
+use crate::pair::{self, ask_prepared, ask_starts, read_board, same, write};
 use lfa::{
-    code, flat, Answer, Call, Caller, Cpus, Event, Flaw, Prepared, Record, Refusal, Registers,
-    Release, RECORD_BYTES,
+    code, flat, Answer, Board, Call, Caller, Cpus, Event, Flaw, LogRecord, Prepared, Record,
+    Refusal, Registers, Release, RECORD_BYTES,
 };
 
 /// What the tables hold where nothing was written.
@@ -21,6 +21,18 @@ pub fn returned(x0: u64) -> Caller {
         x0,
         ..Registers::default()
     })
+}
+
+/// Writes a board's description from its parts, on both sides.
+pub fn describe(buf: &mut [u8], parts: &Board) -> Result<usize, Refusal> {
+    let _ = pair::describe(&"parts", &mut buf.to_vec(), parts);
+    lfa::describe(buf, parts)
+}
+
+/// Reads the log record that the bytes open with, on both sides.
+pub fn read_record(bytes: &[u8]) -> Result<(LogRecord, &[u8]), Refusal> {
+    let _ = pair::read_record(&"a log", bytes);
+    lfa::read_record(bytes)
 }
 
 /// The record of a board that was just switched on, on both sides.

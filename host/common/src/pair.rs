@@ -212,10 +212,38 @@ pub fn write(
     same(
         at,
         "log",
-        &(event, answer, ours.len(), written),
-        &(event, answer, ours.len(), flat_written(expected)),
+        &(event, answer, written, &*buf),
+        &(event, answer, flat_written(expected), &*ours),
     );
-    same(at, "log bytes", &&*buf, &&*ours);
+    expected
+}
+
+/// Writes a board's description from its parts on both sides.
+pub fn describe(at: &impl Display, buf: &mut [u8], parts: &flat::Board) -> Result<usize, Refusal> {
+    let mut ours = buf.to_vec();
+    let written = flat::describe(buf, *parts);
+    let expected = match peer_parts(parts) {
+        Some(board) => board.write(&mut ours),
+        None => Err(Refusal::ReservedBit),
+    };
+    same(
+        at,
+        "description",
+        &(parts, written, &*buf),
+        &(parts, flat_written(expected), &*ours),
+    );
+    expected
+}
+
+/// Reads the log record that the bytes open with, on both sides.
+pub fn read_record(at: &impl Display, bytes: &[u8]) -> Result<LogRecord, Refusal> {
+    let expected = LogRecord::read(bytes);
+    same(
+        at,
+        "log record",
+        &(bytes, flat::read_record(bytes)),
+        &(bytes, flat_read(expected)),
+    );
     expected
 }
 

@@ -1,62 +1,15 @@
-//! The peer's writers, and its reader of one log record: what the library's
-//! functions do not show, or not alone.
+//! Log records by their fields: written by the peer, read on both sides.
 
-use common::boards::{described, usual, LAST};
 use common::generate::{ACTIVATE_CODES, PRIME_CODES};
+use common::pair::read_record;
 use peer::*;
+
+fn read(bytes: &[u8]) -> Result<LogRecord, Refusal> {
+    read_record(&"a record", bytes)
+}
 
 fn number<T: std::fmt::Debug>(result: Result<T, Refusal>) -> u64 {
     result.unwrap_err().number()
-}
-
-#[test]
-fn board_bytes() {
-    let mut board = usual(2, 4);
-    board.first = 0x0102_0304_0506_0708;
-    board.last = 0x1112_1314_1516_1718;
-    board.component[1].svn = 0xA1A2_A3A4;
-    let bytes = described(&board);
-    assert_eq!(bytes[2..10], [1, 2, 3, 4, 5, 6, 7, 8]);
-    assert_eq!(bytes[10..18], board.last.to_be_bytes());
-    assert_eq!(bytes[18..34], board.component[0].uuid);
-    assert_eq!(bytes[34], 0x80);
-    assert_eq!(bytes[55..], [0xC0, 0xA1, 0xA2, 0xA3, 0xA4]);
-}
-
-#[test]
-fn board_writing_refusals() {
-    let mut wrong = usual(2, 4);
-    wrong.first = LAST + 1;
-    wrong.component[1].optional = true;
-    wrong.component[0].uuid = wrong.component[1].uuid;
-    let mut room = [7; 59];
-    for (components, cpus) in [(0, 4), (33, 4), (2, 0), (2, 65), (u64::MAX, u64::MAX)] {
-        let board = Board {
-            components,
-            cpus,
-            ..wrong.clone()
-        };
-        assert_eq!(number(board.write(&mut room)), 26);
-    }
-    assert_eq!(number(wrong.write(&mut room)), 23);
-    wrong.first = LAST;
-    assert_eq!(number(wrong.write(&mut room)), 24);
-    wrong.component[1].optional = false;
-    assert_eq!(number(wrong.write(&mut room)), 25);
-    wrong.component[0].uuid[0] ^= 1;
-    assert_eq!(number(wrong.write(&mut room)), 27);
-    assert_eq!(room, [7; 59]);
-    // Only within the counts.
-    wrong.component[2] = Component {
-        optional: true,
-        may_reset: true,
-        ..wrong.component[0]
-    };
-    let mut room = [7; 64];
-    assert_eq!(wrong.write(&mut room), Ok(60));
-    assert_eq!(room[60..], [7; 4]);
-    wrong.component[2] = Component::default();
-    assert_eq!(Board::read(&room[..60]), Ok(wrong));
 }
 
 fn good_call(outcome: u64) -> LogRecord {
@@ -105,10 +58,10 @@ fn log_records_round_trip() {
         let mut bytes = [7; 60];
         assert_eq!(record.write(&mut bytes), Ok(51));
         assert_eq!(bytes[51..], [7; 9]);
-        assert_eq!(LogRecord::read(&bytes), Ok(record));
-        assert_eq!(LogRecord::read(&bytes[..51]), Ok(record));
+        assert_eq!(read(&bytes), Ok(record));
+        assert_eq!(read(&bytes[..51]), Ok(record));
         for length in 0..51 {
-            assert_eq!(number(LogRecord::read(&bytes[..length])), 30);
+            assert_eq!(number(read(&bytes[..length])), 30);
             let mut short = vec![7; length];
             assert_eq!(number(record.write(&mut short)), 34);
             assert!(short.iter().all(|&byte| byte == 7));
@@ -185,7 +138,7 @@ fn check_writing(record: LogRecord) {
     match refusal(&record) {
         None => {
             assert_eq!(record.write(&mut bytes), Ok(51));
-            assert_eq!(LogRecord::read(&bytes), Ok(record));
+            assert_eq!(read(&bytes), Ok(record));
         }
         Some(expected) => {
             assert_eq!(number(record.write(&mut bytes)), expected);
@@ -231,10 +184,9 @@ fn log_reading_refusals() {
                     None if reserved != 0 => Some(31),
                     other => other,
                 };
-                let read = LogRecord::read(&bytes);
                 match expected {
-                    None => assert_eq!(read, Ok(record)),
-                    Some(expected) => assert_eq!(number(read), expected),
+                    None => assert_eq!(read(&bytes), Ok(record)),
+                    Some(expected) => assert_eq!(number(read(&bytes)), expected),
                 }
             }
         }

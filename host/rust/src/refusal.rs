@@ -30,7 +30,7 @@ impl Refusal {
     pub const BOARD_TOO_SHORT: Refusal = Refusal(20);
     /// Board: too long.
     pub const BOARD_TOO_LONG: Refusal = Refusal(21);
-    /// Board: reserved bit set.
+    /// Board: reserved bit set; writing one: a flag that is neither 0 nor 1.
     pub const RESERVED_BIT: Refusal = Refusal(22);
     /// Board: first > last.
     pub const RANGE: Refusal = Refusal(23);
@@ -38,6 +38,12 @@ impl Refusal {
     pub const BOTH_FLAGS: Refusal = Refusal(24);
     /// Board: UUID twice.
     pub const UUID_TWICE: Refusal = Refusal(25);
+    /// Writing a board: a count outside its limits.
+    pub const COUNT: Refusal = Refusal(26);
+    /// Writing a board: no room for its bytes.
+    pub const NO_BOARD_ROOM: Refusal = Refusal(27);
+    /// Log: under 51 bytes left.
+    pub const LOG_TOO_SHORT: Refusal = Refusal(30);
     /// Log: unused field not 0, or a number too large for its field.
     pub const FIELD: Refusal = Refusal(31);
     /// Log: kind, outcome or code unknown. Event: kind unknown, which an [`Event`](crate::Event) never is.
@@ -74,10 +80,13 @@ impl Refusal {
             Refusal::NOT_WELL_FORMED => "record not well formed",
             Refusal::BOARD_TOO_SHORT => "board: too short",
             Refusal::BOARD_TOO_LONG => "board: too long",
-            Refusal::RESERVED_BIT => "board: reserved bit set",
+            Refusal::RESERVED_BIT => "board: reserved bit set, or a flag neither 0 nor 1",
             Refusal::RANGE => "board: first > last",
             Refusal::BOTH_FLAGS => "board: optional with may_reset",
             Refusal::UUID_TWICE => "board: UUID twice",
+            Refusal::COUNT => "writing a board: a count outside its limits",
+            Refusal::NO_BOARD_ROOM => "writing a board: no room for its bytes",
+            Refusal::LOG_TOO_SHORT => "log: under 51 bytes left",
             Refusal::FIELD => "log: unused field not 0, or a number too large for its field",
             Refusal::UNKNOWN => "kind, outcome or code unknown",
             Refusal::LOG => {

@@ -1,8 +1,12 @@
 //! Packed board descriptions, good and bad.
 
+use crate::clauses::dice_flag;
 use common::boards::{any, any_of, described};
+use common::convert::flat_board;
 use common::dice::Dice;
-use common::pair::read_board;
+use common::pair::{describe, read_board};
+use lfa::flat;
+use peer::{MAX_COMPONENTS, MAX_CPUS};
 use std::collections::BTreeMap;
 
 /// Reads a description on both sides and tells the refusal, or 0.
@@ -68,6 +72,9 @@ fn good_boards() {
             let bytes = described(&board);
             assert_eq!(bytes.len() as u64, 18 + 21 * components);
             dice.next_step();
+            let mut room = vec![7; bytes.len()];
+            let written = describe(&dice, &mut room, &flat_board(&board));
+            assert_eq!((written, &room), (Ok(bytes.len()), &bytes), "{dice}");
             assert_eq!(read_board(&dice, &bytes), Ok(board), "{dice}");
         }
     }
@@ -117,5 +124,73 @@ fn random_boards() {
             dice.place(bytes.len())
         };
         compare(&mut dice, &bytes[..length]);
+    }
+}
+
+/// Changes the parts of a board, within the counts or past them.
+fn change_parts(dice: &mut Dice, parts: &mut flat::Board) {
+    let (place, other) = (dice.place(MAX_COMPONENTS), dice.place(MAX_COMPONENTS));
+    let over = dice.one_of(&[1, 2, 1 << 32, 1 << 63]);
+    match dice.below(10) {
+        0 => parts.components = 0,
+        1 => parts.components = MAX_COMPONENTS as u64 + over,
+        2 => parts.components = 1 + dice.below(MAX_COMPONENTS as u64),
+        3 => parts.cpus = 0,
+        4 => parts.cpus = MAX_CPUS as u64 + over,
+        5 => (parts.first, parts.last) = (parts.last, parts.first),
+        6 => {
+            (
+                parts.component[place].may_reset,
+                parts.component[place].optional,
+            ) = (1, 1)
+        }
+        7 => parts.component[place].uuid = parts.component[other].uuid,
+        8 => *dice_flag(dice, &mut parts.component[place]) = 2 + dice.below(254) as u8,
+        _ => *dice_flag(dice, &mut parts.component[place]) ^= 1,
+    }
+}
+
+/// The length of a buffer for a description: mostly enough for any.
+fn room(dice: &mut Dice) -> usize {
+    let most = 18 + 21 * MAX_COMPONENTS;
+    match dice.below(4) {
+        0 => dice.place(most),
+        _ => most + dice.place(9),
+    }
+}
+
+#[test]
+fn changed_parts() {
+    let mut dice = Dice::new(20);
+    let mut refusals = BTreeMap::<u64, u64>::new();
+    for _ in 0..100_000 {
+        dice.next_step();
+        let mut parts = flat_board(&any(&mut dice));
+        for _ in 0..dice.below(3) {
+            change_parts(&mut dice, &mut parts);
+        }
+        let mut buf = vec![7; room(&mut dice)];
+        let refusal = match describe(&dice, &mut buf, &parts) {
+            Ok(bytes) => compare(&mut dice, &buf[..bytes]),
+            Err(refusal) => refusal.number(),
+        };
+        *refusals.entry(refusal).or_default() += 1;
+    }
+    println!("refusals of changed parts: {refusals:?}");
+    let kinds: Vec<u64> = refusals.into_keys().collect();
+    assert_eq!(kinds, [0, 22, 23, 24, 25, 26, 27], "{dice}");
+}
+
+/// Exactly as long as the description, and a byte less.
+#[test]
+fn just_enough_room() {
+    let mut dice = Dice::new(21);
+    for components in 1..=32 {
+        let parts = flat_board(&any_of(&mut dice, components, 1));
+        let length = 18 + 21 * components as usize;
+        let written = describe(&dice, &mut vec![7; length], &parts);
+        assert_eq!(written, Ok(length));
+        let refused = describe(&dice, &mut vec![7; length - 1], &parts);
+        assert_eq!(refused.map_err(|refusal| refusal.number()), Err(27));
     }
 }

@@ -7,7 +7,7 @@ use common::boards::{any, described};
 use common::convert::*;
 use common::dice::Dice;
 use common::generate::{entry, id, junk_event, noise, ACTIVATE_CODES, FUNCTIONS, PRIME_CODES};
-use common::pair::{ask, ask_prepared, ask_starts, flat_form, log, question};
+use common::pair::{ask, ask_prepared, ask_starts, flat_form, log, question, read_record};
 use lfa::flat;
 use peer::*;
 use std::collections::BTreeMap;
@@ -448,4 +448,49 @@ fn random_answers_logged() {
     }
     println!("random answers written: {written}");
     assert!(written > 20_000, "{dice}: {written}");
+}
+
+/// Records read one by one: of walks, damaged, cut short and random.
+#[test]
+fn records_read() {
+    let mut dice = Dice::new(22);
+    let mut refusals = BTreeMap::<u64, u64>::new();
+    for _ in 0..400 {
+        let records = 1 + dice.place(25);
+        let mut log = walk(&mut dice, records).log;
+        for round in 0..40 {
+            if round % 4 == 3 {
+                damage(&mut dice, &mut log);
+            }
+            let start = match dice.below(8) {
+                0 => dice.place(log.len() + 1),
+                _ => RECORD_BYTES * dice.place(log.len() / RECORD_BYTES + 1),
+            };
+            dice.next_step();
+            let refusal = match read_record(&dice, &log[start.min(log.len())..]) {
+                Ok(_) => 0,
+                Err(refusal) => refusal.number(),
+            };
+            *refusals.entry(refusal).or_default() += 1;
+        }
+    }
+    println!("refusals of records read: {refusals:?}");
+    let kinds: Vec<u64> = refusals.into_keys().collect();
+    assert_eq!(kinds, [0, 30, 31, 32], "{dice}");
+}
+
+/// Every bit of a record, flipped, and random bytes.
+#[test]
+fn every_bit_of_a_record() {
+    let mut dice = Dice::new(23);
+    let walk = full_walk(&mut dice, 40);
+    for record in walk.log.chunks(RECORD_BYTES) {
+        for bit in BITS {
+            let mut bytes = record.to_vec();
+            bytes[bit / 8] ^= 1 << (bit % 8);
+            let _ = read_record(&dice, &bytes);
+            dice.fill(&mut bytes[bit / 8..]);
+            let _ = read_record(&dice, &bytes);
+        }
+    }
 }

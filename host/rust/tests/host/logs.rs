@@ -2,10 +2,10 @@
 
 use common::boards::{described, usual, OPTIONAL, PLAIN, RESETS};
 use common::events::*;
-use common::host::{prepared_at, starts_at, write_log, Host};
+use common::host::{prepared_at, read_record, starts_at, write_log, Host};
 use lfa::{
-    code, flat, function, Answer, Call, Caller, Event, Flaw, Freed, Refusal, Registers, Release,
-    Report, RECORD_BYTES,
+    code, flat, function, Answer, Call, Caller, Event, Flaw, Freed, LogRecord, Refusal, Registers,
+    Release, Report, RECORD_BYTES,
 };
 
 const NOTHING: Answer = Answer {
@@ -281,4 +281,77 @@ fn no_rendezvous_starts_by_the_log_after_a_skip() {
     skipped(code::AGAIN, Some(OPTIONAL));
     skipped(2, None);
     skipped(2, Some(OPTIONAL));
+}
+
+#[test]
+fn a_record_reads_back_with_the_unread_rest() {
+    let log = log();
+    let image = LogRecord {
+        kind: 4,
+        outcome: 7,
+        w2: PLAIN,
+        w3: 5,
+        ..LogRecord::default()
+    };
+    let prime = LogRecord {
+        kind: 1,
+        outcome: 3,
+        w1: function::PRIME,
+        w2: PLAIN,
+        ..LogRecord::default()
+    };
+    let report = LogRecord {
+        kind: 2,
+        outcome: 6,
+        w2: PLAIN,
+        ..LogRecord::default()
+    };
+    let mut unread = &log[..];
+    for expected in [image, prime, report] {
+        let (record, rest) = read_record(unread).expect("a record");
+        assert_eq!(record, expected);
+        assert_eq!(rest, &unread[RECORD_BYTES..]);
+        unread = rest;
+    }
+    assert!(unread.is_empty());
+}
+
+#[test]
+fn every_field_of_a_call_reads_back() {
+    let mut buf = [0; RECORD_BYTES];
+    let event = call(63, [1, 2, 3, 4, u64::MAX]);
+    write_log(&mut buf, &event, &RETURNED).expect("room");
+    let call = LogRecord {
+        kind: 1,
+        cpu: 63,
+        code: 0,
+        outcome: 1,
+        w1: 1,
+        w2: 2,
+        w3: 3,
+        w4: 4,
+        w5: u64::MAX,
+        w6: 1,
+    };
+    assert_eq!(read_record(&buf), Ok((call, &[][..])));
+}
+
+#[test]
+fn a_record_that_is_none_is_30_32_or_31() {
+    let log = log();
+    for length in 0..RECORD_BYTES {
+        assert_eq!(read_record(&log[..length]), Err(Refusal::LOG_TOO_SHORT));
+    }
+    let mut bad = log[..RECORD_BYTES].to_vec();
+    bad[2] |= 1;
+    assert_eq!(read_record(&bad), Err(Refusal::FIELD));
+    bad[0] = 0xE0;
+    assert_eq!(read_record(&bad), Err(Refusal::UNKNOWN));
+    assert_eq!(
+        flat::read_record(&bad),
+        flat::Read {
+            refusal: 32,
+            ..flat::Read::default()
+        }
+    );
 }

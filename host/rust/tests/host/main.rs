@@ -2,6 +2,7 @@
 //! and has to answer the same: `common::host`.
 
 mod damage;
+mod describe;
 mod examples;
 mod layout;
 mod logs;

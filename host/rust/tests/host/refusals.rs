@@ -32,15 +32,18 @@ fn numbers_are_document_01s() {
         Refusal::RANGE,
         Refusal::BOTH_FLAGS,
         Refusal::UUID_TWICE,
+        Refusal::COUNT,
+        Refusal::NO_BOARD_ROOM,
     ];
-    assert!(boards.iter().map(|r| r.number()).eq(20..=25));
+    assert!(boards.iter().map(|r| r.number()).eq(20..=27));
     let logs = [
+        Refusal::LOG_TOO_SHORT,
         Refusal::FIELD,
         Refusal::UNKNOWN,
         Refusal::LOG,
         Refusal::NO_ROOM,
     ];
-    assert!(logs.iter().map(|r| r.number()).eq(31..=34));
+    assert!(logs.iter().map(|r| r.number()).eq(30..=34));
 }
 
 #[test]
