@@ -19,6 +19,14 @@ pub fn unknown_refusal(known: u64) -> u64 {
     }
 }
 
+/// The number of the refusal, or 0.
+pub fn refusal_of<T>(result: &Result<T, Refusal>) -> u64 {
+    match result {
+        Ok(_) => 0,
+        Err(refusal) => refusal.number(),
+    }
+}
+
 /// The number of a state and its component, 0 where it has none.
 fn state_numbers(state: State) -> (u64, u64) {
     match state {

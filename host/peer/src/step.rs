@@ -263,11 +263,7 @@ impl Record {
             self.informed = false;
         }
         if code == BY_RESET {
-            for cpu in self.held.members() {
-                let place = cpu as usize;
-                entries[place] = self.entry[place];
-                contexts[place] = self.context[place];
-            }
+            self.hand_out_resumes(entries, contexts);
             let cpus = self.let_go(State::Idle);
             return Ok(Answer::release(Release::Resumed(cpus)));
         }
@@ -306,6 +302,15 @@ impl Record {
         let (x0, x1) = if code == 1 { (0, 1) } else { (status(code), 0) };
         let cpus = self.let_go(next);
         Answer::release(Release::Returned { cpus, x0, x1 })
+    }
+
+    /// Writes what was kept for the held CPUs at their places of the tables.
+    fn hand_out_resumes(&self, entries: &mut [u64], contexts: &mut [u64]) {
+        for cpu in self.held.members() {
+            let place = cpu as usize;
+            entries[place] = self.entry[place];
+            contexts[place] = self.context[place];
+        }
     }
 
     /// Forgets the held CPUs with what was kept for them, and tells them.

@@ -2,7 +2,7 @@
 
 use crate::clauses::dice_flag;
 use common::boards::{any, any_of, described};
-use common::convert::flat_board;
+use common::convert::{flat_board, refusal_of};
 use common::dice::Dice;
 use common::pair::{describe, read_board};
 use lfa::flat;
@@ -12,10 +12,7 @@ use std::collections::BTreeMap;
 /// Reads a description on both sides and tells the refusal, or 0.
 fn compare(dice: &mut Dice, bytes: &[u8]) -> u64 {
     dice.next_step();
-    match read_board(dice, bytes) {
-        Ok(_) => 0,
-        Err(refusal) => refusal.number(),
-    }
+    refusal_of(&read_board(dice, bytes))
 }
 
 /// Breaks a description in one way or another.
@@ -170,11 +167,11 @@ fn changed_parts() {
             change_parts(&mut dice, &mut parts);
         }
         let mut buf = vec![7; room(&mut dice)];
-        let refusal = match describe(&dice, &mut buf, &parts) {
-            Ok(bytes) => compare(&mut dice, &buf[..bytes]),
-            Err(refusal) => refusal.number(),
-        };
-        *refusals.entry(refusal).or_default() += 1;
+        let written = describe(&dice, &mut buf, &parts);
+        *refusals.entry(refusal_of(&written)).or_default() += 1;
+        if let Ok(bytes) = written {
+            assert_eq!(compare(&mut dice, &buf[..bytes]), 0, "{dice}");
+        }
     }
     println!("refusals of changed parts: {refusals:?}");
     let kinds: Vec<u64> = refusals.into_keys().collect();
@@ -191,6 +188,6 @@ fn just_enough_room() {
         let written = describe(&dice, &mut vec![7; length], &parts);
         assert_eq!(written, Ok(length));
         let refused = describe(&dice, &mut vec![7; length - 1], &parts);
-        assert_eq!(refused.map_err(|refusal| refusal.number()), Err(27));
+        assert_eq!(refusal_of(&refused), 27);
     }
 }

@@ -67,10 +67,7 @@ fn compare_known(dice: &mut Dice, damaged: &flat::Record, event: &Event, tables:
         peer,
     };
     let (answer, _) = pair.step(dice, event, tables);
-    match answer {
-        Ok(_) => 0,
-        Err(refusal) => refusal.number(),
-    }
+    refusal_of(&answer)
 }
 
 #[test]

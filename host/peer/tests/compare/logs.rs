@@ -106,11 +106,8 @@ fn damaged_logs() {
                 damage(&mut dice, &mut log);
             }
             ask_somewhere(&mut dice, &walk.pair.peer, &walk.board, &log);
-            let refusal = match prepared_at(&log, 0) {
-                Ok(_) => 0,
-                Err(flaw) => flaw.refusal.number(),
-            };
-            *refusals.entry(refusal).or_default() += 1;
+            let read = prepared_at(&log, 0).map_err(|flaw| flaw.refusal);
+            *refusals.entry(refusal_of(&read)).or_default() += 1;
         }
     }
     println!("refusals of damaged logs: {refusals:?}");
@@ -467,11 +464,8 @@ fn records_read() {
                 _ => RECORD_BYTES * dice.place(log.len() / RECORD_BYTES + 1),
             };
             dice.next_step();
-            let refusal = match read_record(&dice, &log[start.min(log.len())..]) {
-                Ok(_) => 0,
-                Err(refusal) => refusal.number(),
-            };
-            *refusals.entry(refusal).or_default() += 1;
+            let read = read_record(&dice, &log[start..]);
+            *refusals.entry(refusal_of(&read)).or_default() += 1;
         }
     }
     println!("refusals of records read: {refusals:?}");
