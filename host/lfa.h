@@ -114,18 +114,18 @@ enum lfa_state {
 
 /*
  * The numbers of the refusals. The first that applies is given; for events that is 9, then 1, then 32 for an unknown kind or
- * the rest. A refusal comes with nothing else and changes nothing lent.
+ * the rest. A refusal is the whole answer, and all that was lent is as it was.
  *
- * 31: component over 31, version of 2^32 or more or, when writing, CPU over 63. Document 01's 26, 27 and 30 are never given
- * here: 26 and 27 belong to writing a board, which no function here does, and 33 comes before 30.
+ * 31: a component of 32 or more, a version over 32 bits or, in writing, a CPU of 64 or more. Document 01's 26, 27 and 30 are
+ * never given here: 26 and 27 belong to writing a board, which no function here does, and 33 comes before 30.
  */
 enum lfa_refusal {
     LFA_REFUSAL_NONE = 0,             /* not refused */
-    LFA_REFUSAL_SHORT_TABLE = 1,      /* a resume table is shorter than the CPU count */
+    LFA_REFUSAL_SHORT_TABLE = 1,      /* a resume table has too few places for the board's CPUs */
     LFA_REFUSAL_NO_SUCH_CPU = 2,      /* call: no such CPU */
     LFA_REFUSAL_CPU_OFF = 3,          /* call: CPU off */
     LFA_REFUSAL_CPU_HELD = 4,         /* call: CPU held */
-    LFA_REFUSAL_NO_JOB = 5,           /* report: no job of that kind running for that component */
+    LFA_REFUSAL_NO_JOB = 5,           /* report: the component has no such job running */
     LFA_REFUSAL_CODE = 6,             /* report: code not allowed for it */
     LFA_REFUSAL_COMPONENT = 7,        /* image: no such or not capable component */
     LFA_REFUSAL_IN_USE = 8,           /* image: it is the state's component */
@@ -138,7 +138,7 @@ enum lfa_refusal {
     LFA_REFUSAL_UUID_TWICE = 25,      /* board: UUID twice */
     LFA_REFUSAL_FIELD = 31,           /* log: unused field not 0, or a number too large for its field (above) */
     LFA_REFUSAL_UNKNOWN = 32,         /* log: kind, outcome or code unknown; event: kind unknown */
-    LFA_REFUSAL_LOG = 33,             /* log length no multiple of 51, over 1,024 records, or place past its end */
+    LFA_REFUSAL_LOG = 33,             /* log: part of a record, over 1,024 of them, or a place past the end */
     LFA_REFUSAL_NO_ROOM = 34          /* no room for 51 bytes */
 };
 
@@ -281,8 +281,9 @@ struct lfa_started {
 
 /*
  * The record of a board that was just switched on: CPU 0 on, the others off, nothing pending, idle. board is the packed
- * description: count of components less 1 (5 bits), of CPUs less 1 (6), zero (5), first (64), last (64); then per component
- * UUID bytes, capable, may_reset, optional (1 each), zero (5), SVN (32); most significant bit first.
+ * description, most significant bit first: 5 bits for the components less 1, 6 for the CPUs less 1, 5 zeros, 64 each for the
+ * first and the last address; then for each component its 16 bytes of UUID, a bit each for capable, may_reset and optional, 5
+ * zeros, and 32 bits for the SVN.
  */
 struct lfa_fresh lfa_fresh(const uint8_t *board, size_t board_length);
 

@@ -1,4 +1,5 @@
--- The cases of reading and of writing, each as a law that a proof cites. Assumes nothing.
+-- The cases of reading and of writing, each as a law: what is accepted passed each test, and what is written is its parts in a row.
+-- Assumes nothing.
 use Prim.Native.Nat.{ℕ, _+_, _-_, _*_, _<_, _≤_}
 use mathlib.Core.Path.{_≡_, refl, sym}
 use mathlib.Core.Bool.{Bool, true, false}
@@ -14,12 +15,13 @@ use Rattle.bitfield.specs.Layout.{join, Fit}
 use Rattle.bitfield.proofs.Laws.{value-lt, length-bytes, put-none, put-put, take-put}
 use Rattle.bitfield.proofs.Round.{join-one, bytes-join}
 use Rattle.board.specs.Description.{mostComponents, mostCpus, componentOf, isCapable, blankPast, unless, withinLimit, countsOf, Counted, judgedOf}
-use Rattle.board.specs.Packed.{lengthOf, componentsIn, boardAt, reservedClear, shapeOf, unread, settle, accepted, readOf, digitOf, flagIn, flagsNumber, headWidths, headValues, tailWidths, tailValues, headLength, tailLength, headBytes, componentBytes, componentLength, bytesAt, bytesOf, writableOf, isAccepted, isWritable, boardStands, lengthIn, putBy, putOf, bufferOf, partBy, partOf, Typed, EachTyped}
+use Rattle.board.specs.Packed.{lengthOf, componentsIn, boardAt, reservedClear, shapeOf, unread, settle, ruledAs, accepted, readOf, digitOf, flagIn, flagsNumber, headWidths, headValues, tailWidths, tailValues, headLength, tailLength, headBytes, componentBytes, componentLength, bytesAt, bytesOf, writableOf, isKept, isWritable, boardStands, lengthIn, putBy, putOf, bufferOf, partBy, partOf, Typed, EachTyped}
 use Rattle.board.specs.declared.Component.{Component}
 use Rattle.board.specs.declared.Board.{Board}
 use Rattle.board.specs.declared.Refusal.{Refusal}
 use Rattle.board.specs.declared.Refusal.the-variants.{NoRoom}
-use Rattle.board.specs.declared.Verdict.{Verdict}
+use Rattle.board.specs.declared.Ruling.{Ruling}
+use Rattle.board.specs.declared.Ruling.the-variants.{Kept, Broken}
 use Rattle.board.specs.declared.Verdict.the-variants.{Accepted, Refused}
 use Rattle.board.specs.declared.Written.{Written}
 use Rattle.board.specs.declared.Written.the-variants.{Bytes, Nothing}
@@ -30,9 +32,12 @@ pub components-most : (s : List ℕ) → componentsIn s ≤ mostComponents
 components-most s = omega (arith, value-lt s 0 5)
 
 -- an accepted description passed each test
-pub passes : (ok : Bool) (x : Refusal) (v : Verdict) → unless ok x v ≡ Accepted → (ok ≡ true) × (v ≡ Accepted)
-passes true x v e = (refl, e)
-passes false x v e = never cc
+passes : {A : Type 0} {taken : A} (ok : Bool) (x v : A) → (x ≡ taken → ⊥) → unless ok x v ≡ taken → (ok ≡ true) × (v ≡ taken)
+passes true x v n e = (refl, e)
+passes false x v n e = absurd (n e)
+
+not-refused : {x : Refusal} → Refused x ≡ Accepted → ⊥
+not-refused e = never cc
 
 -- what has the shape of a description
 pub record Shaped (s : List ℕ) : Type 0 where
@@ -43,14 +48,14 @@ pub shape-accepted : (s : List ℕ) → shapeOf s ≡ Accepted → Shaped s
 unfolding shapeOf
 shape-accepted s e =
     let m = lengthOf (componentsIn s) in
-    let long = passes (leb 2 (length s)) _ _ e .1 in
-    let enough = passes (leb m (length s)) _ _ long in
-    let exact = passes (leb (length s) m) _ _ (enough .1) in
+    let long = passes (leb 2 (length s)) _ _ not-refused e .1 in
+    let enough = passes (leb m (length s)) _ _ not-refused long in
+    let exact = passes (leb (length s) m) _ _ not-refused (enough .1) in
     let x = leb-true m (length s) (enough .0) in
     let y = leb-true (length s) m (exact .0) in
-    record { whole = omega arith; clear = passes (reservedClear s (componentsIn s)) _ _ (exact .1) .0 }
+    record { whole = omega arith; clear = passes (reservedClear s (componentsIn s)) _ _ not-refused (exact .1) .0 }
 
-pub read-shaped : (s : List ℕ) (v : Verdict) (b : Board) → shapeOf s ≡ Accepted → b ≡ boardAt s → v ≡ judgedOf b → settle v (accepted b) ≡ readOf s
+pub read-shaped : (s : List ℕ) (v : Ruling) (b : Board) → shapeOf s ≡ Accepted → b ≡ boardAt s → v ≡ judgedOf b → settle (ruledAs v) (accepted b) ≡ readOf s
 unfolding readOf
 read-shaped s v b e p q = rw (e, q, p)
 
@@ -76,16 +81,16 @@ pub counts : (b : Board) → Counted b → countsOf b ≡ true
 unfolding withinLimit
 counts b k = simp (le-leb _ _ (k .someComponents), le-leb _ _ (k .fewComponents), le-leb _ _ (k .someCpus), le-leb _ _ (k .fewCpus))
 
-pub writable-passes : (b : Board) → writableOf b ≡ Accepted → Counted b × (judgedOf b ≡ Accepted)
+pub writable-passes : (b : Board) → writableOf b ≡ Kept → Counted b × (judgedOf b ≡ Kept)
 unfolding writableOf
-writable-passes b e = let p = passes (countsOf b) _ _ e in (counted b (p .0), p .1)
+writable-passes b e = let p = passes (countsOf b) _ _ (λ q. never cc) e in (counted b (p .0), p .1)
 
-is-accepted : (v : Verdict) → isAccepted v ≡ true → v ≡ Accepted
-is-accepted Accepted e = refl
-is-accepted (Refused x) e = absurd (not-both e refl)
+is-kept : (v : Ruling) → isKept v ≡ true → v ≡ Kept
+is-kept Kept e = refl
+is-kept (Broken x) e = absurd (not-both e refl)
 
 pub writable-counted : (b : Board) → isWritable b ≡ true → Counted b
-writable-counted b e = writable-passes b (is-accepted (writableOf b) e) .0
+writable-counted b e = writable-passes b (is-kept (writableOf b) e) .0
 
 pub stands-counted : (b : Board) → boardStands b ≡ true → Counted b
 unfolding boardStands
@@ -154,18 +159,18 @@ typed-long c t =
 
 -- the ways that a write ends
 module _ (d : List ℕ) (b : Board) where
-  pub unwritable : (x : Refusal) → writableOf b ≡ Refused x → (Nothing x ≡ putOf (length d) b) × ((d ≡ bufferOf d b) × (0 ≡ length (partOf d b)))
+  pub unwritable : (x : Refusal) → writableOf b ≡ Broken x → (Nothing x ≡ putOf (length d) b) × ((d ≡ bufferOf d b) × (0 ≡ length (partOf d b)))
   unfolding putOf
   unwritable x e = rw e (refl, (put-none d, refl))
 
-  pub by-room : (r : Written) (e : List ℕ) → writableOf b ≡ Accepted → r ≡ putBy Accepted (length d) (lengthOf (b .components)) → e ≡ put d 0 (partBy r b) → lengthIn r ≡ length (partBy r b) → (r ≡ putOf (length d) b) × ((e ≡ bufferOf d b) × (lengthIn r ≡ length (partOf d b)))
+  pub by-room : (r : Written) (e : List ℕ) → writableOf b ≡ Kept → r ≡ putBy Kept (length d) (lengthOf (b .components)) → e ≡ put d 0 (partBy r b) → lengthIn r ≡ length (partBy r b) → (r ≡ putOf (length d) b) × ((e ≡ bufferOf d b) × (lengthIn r ≡ length (partOf d b)))
   unfolding putOf
   by-room r e w p q l = rw (w, ← p) (refl, (q, l))
 
-  pub no-room : length d < lengthOf (b .components) → Nothing NoRoom ≡ putBy Accepted (length d) (lengthOf (b .components))
+  pub no-room : length d < lengthOf (b .components) → Nothing NoRoom ≡ putBy Kept (length d) (lengthOf (b .components))
   no-room h = yes _ (lt-ltb _ _ h) refl
 
-  pub all-written : (h e : List ℕ) → lengthOf (b .components) ≤ length d → h ≡ put d 0 (headBytes b) → e ≡ put h headLength (inTurn (b .components) (bytesAt b)) → EachTyped b (b .components) → (Bytes (lengthOf (b .components)) ≡ putBy Accepted (length d) (lengthOf (b .components))) × ((e ≡ put d 0 (bytesOf b)) × (lengthOf (b .components) ≡ length (bytesOf b)))
+  pub all-written : (h e : List ℕ) → lengthOf (b .components) ≤ length d → h ≡ put d 0 (headBytes b) → e ≡ put h headLength (inTurn (b .components) (bytesAt b)) → EachTyped b (b .components) → (Bytes (lengthOf (b .components)) ≡ putBy Kept (length d) (lengthOf (b .components))) × ((e ≡ put d 0 (bytesOf b)) × (lengthOf (b .components) ≡ length (bytesOf b)))
   unfolding bytesOf headBytes
   all-written h e g p q t =
       let l = length-inTurn (bytesAt b) componentLength (b .components) (λ i k. typed-long (componentOf b i) (t i k)) in
@@ -183,9 +188,9 @@ put-fits room b = go (writableOf b)
     n : ℕ
     n = lengthOf (b .components)
 
-    go : (v : Verdict) → lengthIn (putBy v room n) ≤ room
-    go (Refused x) = omega arith
-    go Accepted = pick-cases (λ (w : Written). lengthIn w ≤ room) (ltb room n) (Nothing NoRoom) (Bytes n) (λ _. omega arith) (λ t. ltb-false room n t)
+    go : (v : Ruling) → lengthIn (putBy v room n) ≤ room
+    go (Broken x) = omega arith
+    go Kept = pick-cases (λ (w : Written). lengthIn w ≤ room) (ltb room n) (Nothing NoRoom) (Bytes n) (λ _. omega arith) (λ t. ltb-false room n t)
 
 -- the part is what stands at the start of the buffer
 pub part-written : (d : List ℕ) (b : Board) (n : ℕ) → n ≡ length (partOf d b) → n ≤ length d → take n (bufferOf d b) ≡ partOf d b

@@ -1,4 +1,5 @@
--- The refusal of a reading and of a writing is the first of document 01's table that applies. Assumes nothing.
+-- The refusal of a reading or writing is the first of document 01's table that applies: case by case, up to the first test that fails.
+-- Assumes nothing.
 use Prim.Native.Nat.{ℕ}
 use mathlib.Core.Path.{_≡_, refl, ap, _∙_}
 use mathlib.Core.Bool.{Bool, true, false, not, _&&_}
@@ -8,14 +9,15 @@ use lib.ListN.{length}
 use Rattle.basics.specs.Choice.{pick}
 use Rattle.basics.specs.First.{firstOf}
 use Rattle.board.specs.Description.{unless, countsOf, apart, distinct, judgedOf, numberOf}
-use Rattle.board.specs.Packed.{lengthOf, componentsIn, reservedClear, boardAt, shapeOf, accepted, settle, readOf, writableOf, putBy, putOf}
+use Rattle.board.specs.Packed.{lengthOf, componentsIn, reservedClear, boardAt, shapeOf, accepted, settle, ruledAs, readOf, writableOf, putBy, putOf}
 use Rattle.board.specs.Numbers.{refusalOf, refusalIn, readRows, putRows}
 use Rattle.board.specs.declared.Board.{Board}
 use Rattle.board.specs.declared.ReadBoard.{ReadBoard}
 use Rattle.board.specs.declared.Refusal.{Refusal}
 use Rattle.board.specs.declared.Refusal.the-variants.{TooShort, TooLong, ReservedBit, FirstAboveLast, OptionalMayReset, UuidTwice, CountOutside, NoRoom}
-use Rattle.board.specs.declared.Verdict.{Verdict}
-use Rattle.board.specs.declared.Verdict.the-variants.{Accepted}
+use Rattle.board.specs.declared.Ruling.{Ruling}
+use Rattle.board.specs.declared.Ruling.the-variants.{Kept, Broken}
+use Rattle.board.specs.declared.Verdict.the-variants.{Accepted, Refused}
 use Rattle.board.specs.declared.Written.{Written}
 use Rattle.board.specs.declared.Written.the-variants.{Bytes, Nothing}
 
@@ -31,11 +33,11 @@ number-some CountOutside = refl
 number-some NoRoom = refl
 
 -- the rules of a description itself, test by test
-abbrev by-tests : Bool → Bool → Bool → Verdict
-by-tests range flags uuids = unless range FirstAboveLast (unless flags OptionalMayReset (unless uuids UuidTwice Accepted))
+abbrev by-tests : Bool → Bool → Bool → Ruling
+by-tests range flags uuids = unless range (Broken FirstAboveLast) (unless flags (Broken OptionalMayReset) (unless uuids (Broken UuidTwice) Kept))
 
 read-first : (two long short clear range flags uuids : Bool) (b : Board)
-    → refusalOf (settle (unless two TooShort (unless long TooShort (unless short TooLong (unless clear ReservedBit Accepted)))) (settle (by-tests range flags uuids) (accepted b)) .verdict)
+    → refusalOf (settle (unless two (Refused TooShort) (unless long (Refused TooShort) (unless short (Refused TooLong) (unless clear (Refused ReservedBit) Accepted)))) (settle (ruledAs (by-tests range flags uuids)) (accepted b)) .verdict)
     ≡ firstOf ((20, not (two && long)) ∷ (21, not short) ∷ (22, not clear) ∷ (23, not range) ∷ (24, not flags) ∷ (25, not uuids) ∷ [])
 read-first false long short clear range flags uuids b = refl
 read-first true false short clear range flags uuids b = refl
@@ -56,7 +58,7 @@ read-given s x e =
     ∙ read-first (leb 2 (length s)) (leb (lengthOf n) (length s)) (leb (length s) (lengthOf n)) (reservedClear s n) (leb (b .first) (b .last)) (apart b) (distinct b) b
 
 put-first : (counts range flags uuids : Bool) (room n : ℕ)
-    → refusalIn (putBy (unless counts CountOutside (by-tests range flags uuids)) room n)
+    → refusalIn (putBy (unless counts (Broken CountOutside) (by-tests range flags uuids)) room n)
     ≡ firstOf ((26, not counts) ∷ (23, not range) ∷ (24, not flags) ∷ (25, not uuids) ∷ (27, ltb room n) ∷ [])
 put-first false range flags uuids room n = refl
 put-first true false flags uuids room n = refl

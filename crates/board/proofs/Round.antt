@@ -1,4 +1,5 @@
--- A description that was written reads back, and bytes that read are those that writing gives. Assumes nothing.
+-- A description that was written reads back, and bytes that read are those that writing gives: the head and each tail by bitfield's round
+-- trip of a layout, each UUID byte by byte. Assumes nothing.
 use Prim.Native.Nat.{ℕ, _+_, _-_, _*_, _<_, _≤_}
 use mathlib.Core.Path.{_≡_, refl, sym, ap, ap₂, _∙_}
 use mathlib.Core.Bool.{true, not}
@@ -17,12 +18,14 @@ use Rattle.bitfield.specs.Layout.{fields, fieldOf, join, Fit}
 use Rattle.bitfield.proofs.Laws.{length-bytes, value-lt, value-byte, firsts-bytes}
 use Rattle.bitfield.proofs.Round.{value-front, value-after, value-inTurn, fields-are, fields-drop, read-written, written-front}
 use Rattle.board.specs.Description.{mostComponents, uuidBytes, blank, absent, componentOf, sameUuid, partedOf, parted, unseen, unlike, apart, distinct, judgedOf, Counted, isBlank, blankPast}
-use Rattle.board.specs.Packed.{headWidths, tailWidths, headLength, tailLength, componentLength, lengthOf, startOf, headField, componentsIn, uuidAt, tailField, flagAt, componentAt, boardAt, zeroAt, reservedClear, shapeOf, settle, accepted, readOf, digitOf, headValues, tailValues, headBytes, componentBytes, bytesAt, bytesOf, writableOf, boardStands, Described, DescribedIf, trimmed, ReadsBack, WritesBackBy, WritesBack}
+use Rattle.board.specs.Packed.{headWidths, tailWidths, headLength, tailLength, componentLength, lengthOf, startOf, headField, componentsIn, uuidAt, tailField, flagAt, componentAt, boardAt, zeroAt, reservedClear, shapeOf, settle, ruledAs, accepted, readOf, digitOf, headValues, tailValues, headBytes, componentBytes, bytesAt, bytesOf, writableOf, boardStands, Described, DescribedIf, trimmed, ReadsBack, WritesBackBy, WritesBack}
 use Rattle.board.specs.declared.Component.{Component}
 use Rattle.board.specs.declared.Board.{Board}
 use Rattle.board.specs.declared.ReadBoard.{ReadBoard}
 use Rattle.board.specs.declared.Written.{Written}
 use Rattle.board.specs.declared.Written.the-variants.{Bytes, Nothing}
+use Rattle.board.specs.declared.Ruling.{Ruling}
+use Rattle.board.specs.declared.Ruling.the-variants.{Kept, Broken}
 use Rattle.board.specs.declared.Verdict.{Verdict}
 use Rattle.board.specs.declared.Verdict.the-variants.{Accepted, Refused}
 use Rattle.board.proofs.Laws.{digit-fits, flag-digit, digit-flag, counts, writable-passes, typed-long, Shaped, shape-accepted}
@@ -149,14 +152,14 @@ module _ (b : Board) where
       rw (p, q)
 
   -- a description that the writer takes reads back as written, with blanks past its count
-  pub reads-back : Described b → writableOf b ≡ Accepted → readOf (bytesOf b) ≡ accepted (trimmed b)
+  pub reads-back : Described b → writableOf b ≡ Kept → readOf (bytesOf b) ≡ accepted (trimmed b)
   unfolding readOf
   reads-back d w =
       let p = writable-passes b w in
       rw (shape-back b d (p .0), board-back b d (p .0), judged-trimmed, p .1)
 
   -- the same of what a write did
-  pub written-back : (r : Written) → DescribedIf r b → writableOf b ≡ Accepted → ReadsBack r b
+  pub written-back : (r : Written) → DescribedIf r b → writableOf b ≡ Kept → ReadsBack r b
   written-back (Bytes n) d w = reads-back d w
   written-back (Nothing x) d w = tt
 
@@ -235,17 +238,21 @@ settled Accepted r b e = (refl, e)
 settled (Refused x) r b e =
     let v = ap (λ (u : ReadBoard). u .verdict) e in never cc
 
+ruled-kept : (v : Ruling) → ruledAs v ≡ Accepted → v ≡ Kept
+ruled-kept Kept e = refl
+ruled-kept (Broken x) e = never cc
+
 record Read (s : List ℕ) (b : Board) : Type 0 where
   shaped : shapeOf s ≡ Accepted
-  judged : judgedOf (boardAt s) ≡ Accepted
+  judged : judgedOf (boardAt s) ≡ Kept
   says : boardAt s ≡ b
 
 read-inv : (s : List ℕ) (b : Board) → readOf s ≡ accepted b → Read s b
 unfolding readOf
 read-inv s b e =
     let p = settled (shapeOf s) _ b e in
-    let q = settled (judgedOf (boardAt s)) _ b (p .1) in
-    record { shaped = p .0; judged = q .0; says = ap (λ (r : ReadBoard). r .board) (q .1) }
+    let q = settled (ruledAs (judgedOf (boardAt s))) _ b (p .1) in
+    record { shaped = p .0; judged = ruled-kept (judgedOf (boardAt s)) (q .0); says = ap (λ (r : ReadBoard). r .board) (q .1) }
 
 -- bytes that read are those that writing what they say gives
 pub writes-back : (s : List ℕ) (b : Board) → AreBytes s → readOf s ≡ accepted b → bytesOf b ≡ s
@@ -292,7 +299,7 @@ read-described s =
       });
     }
 
-pub read-writable : (s : List ℕ) (b : Board) → readOf s ≡ accepted b → Described b × (writableOf b ≡ Accepted)
+pub read-writable : (s : List ℕ) (b : Board) → readOf s ≡ accepted b → Described b × (writableOf b ≡ Kept)
 unfolding writableOf
 read-writable s b e =
     let i = read-inv s b e in

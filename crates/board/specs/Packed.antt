@@ -16,17 +16,19 @@ use Rattle.board.specs.declared.Component.{Component}
 use Rattle.board.specs.declared.Board.{Board}
 use Rattle.board.specs.declared.Refusal.{Refusal}
 use Rattle.board.specs.declared.Refusal.the-variants.{TooShort, TooLong, ReservedBit, CountOutside, NoRoom}
+use Rattle.board.specs.declared.Ruling.{Ruling}
+use Rattle.board.specs.declared.Ruling.the-variants.{Kept, Broken}
 use Rattle.board.specs.declared.Verdict.{Verdict}
 use Rattle.board.specs.declared.Verdict.the-variants.{Accepted, Refused}
 use Rattle.board.specs.declared.ReadBoard.{ReadBoard}
 use Rattle.board.specs.declared.Written.{Written}
 use Rattle.board.specs.declared.Written.the-variants.{Bytes, Nothing}
 
--- "count of components less 1 (5 bits), of CPUs less 1 (6), zero (5), first (64), last (64)"
+-- the head (Packed 1): both counts less 1, zero, and the two ends of the range
 abbrev pub headWidths : List ℕ
 headWidths = 5 ∷ 6 ∷ 5 ∷ 64 ∷ 64 ∷ []
 
--- "then per component UUID bytes, capable, may_reset, optional (1 each), zero (5), SVN (32)": what follows the UUID
+-- "then per component" (Packed 1): what follows the UUID
 abbrev pub tailWidths : List ℕ
 tailWidths = 1 ∷ 1 ∷ 1 ∷ 5 ∷ 32 ∷ []
 
@@ -95,13 +97,13 @@ zeroAt s i = eqb (tailField s (startOf i) 3) 0
 unfoldable pub reservedClear : List ℕ → ℕ → Bool
 reservedClear s n = eqb (headField s 2) 0 && allBelow n (zeroAt s)
 
--- 20, 21, 22: too short (under 2 bytes too); too long; reserved bit set
+-- 20, 21, 22: fewer bytes than the counts call for, more of them, a zero bit that is set
 unfoldable pub shapeOf : List ℕ → Verdict
 shapeOf s =
-    unless (leb 2 (length s)) TooShort
-    (unless (leb (lengthOf (componentsIn s)) (length s)) TooShort
-    (unless (leb (length s) (lengthOf (componentsIn s))) TooLong
-    (unless (reservedClear s (componentsIn s)) ReservedBit
+    unless (leb 2 (length s)) (Refused TooShort)
+    (unless (leb (lengthOf (componentsIn s)) (length s)) (Refused TooShort)
+    (unless (leb (length s) (lengthOf (componentsIn s))) (Refused TooLong)
+    (unless (reservedClear s (componentsIn s)) (Refused ReservedBit)
     Accepted)))
 
 abbrev pub accepted : Board → ReadBoard
@@ -115,8 +117,13 @@ abbrev pub settle : Verdict → ReadBoard → ReadBoard
 settle Accepted r = r
 settle (Refused x) r = unread x
 
+-- the rules of the description itself, as reading's verdict
+abbrev pub ruledAs : Ruling → Verdict
+ruledAs Kept = Accepted
+ruledAs (Broken x) = Refused x
+
 unfoldable pub readOf : List ℕ → ReadBoard
-readOf s = settle (shapeOf s) (settle (judgedOf (boardAt s)) (accepted (boardAt s)))
+readOf s = settle (shapeOf s) (settle (ruledAs (judgedOf (boardAt s))) (accepted (boardAt s)))
 
 -- ---- writing
 
@@ -144,24 +151,24 @@ unfoldable pub bytesOf : Board → List ℕ
 bytesOf b = headBytes b ++ inTurn (b .components) (bytesAt b)
 
 -- 26, 23, 24, 25
-unfoldable pub writableOf : Board → Verdict
-writableOf b = unless (countsOf b) CountOutside (judgedOf b)
+unfoldable pub writableOf : Board → Ruling
+writableOf b = unless (countsOf b) (Broken CountOutside) (judgedOf b)
 
-abbrev pub isAccepted : Verdict → Bool
-isAccepted Accepted = true
-isAccepted (Refused x) = false
+abbrev pub isKept : Ruling → Bool
+isKept Kept = true
+isKept (Broken x) = false
 
 abbrev pub isWritable : Board → Bool
-isWritable b = isAccepted (writableOf b)
+isWritable b = isKept (writableOf b)
 
 -- what a well-formed record asks of its board: the rules of a description, and blanks past its count
 unfoldable pub boardStands : Board → Bool
 boardStands b = isWritable b && blankPast b
 
 -- 27 last
-abbrev pub putBy : Verdict → ℕ → ℕ → Written
-putBy (Refused x) room n = Nothing x
-putBy Accepted room n = pick (ltb room n) (Nothing NoRoom) (Bytes n)
+abbrev pub putBy : Ruling → ℕ → ℕ → Written
+putBy (Broken x) room n = Nothing x
+putBy Kept room n = pick (ltb room n) (Nothing NoRoom) (Bytes n)
 
 unfoldable pub putOf : ℕ → Board → Written
 putOf room b = putBy (writableOf b) room (lengthOf (b .components))
@@ -171,7 +178,7 @@ abbrev pub lengthIn : Written → ℕ
 lengthIn (Bytes n) = n
 lengthIn (Nothing x) = 0
 
--- the part that was written: "a refused part is empty"
+-- the part that was written, empty with a refusal
 abbrev pub partBy : Written → Board → List ℕ
 partBy (Bytes n) b = bytesOf b
 partBy (Nothing x) b = []
@@ -179,7 +186,7 @@ partBy (Nothing x) b = []
 abbrev pub partOf : List ℕ → Board → List ℕ
 partOf d b = partBy (putOf (length d) b) b
 
--- the buffer after it: "Bytes not written stay"
+-- the buffer after it (Packed 11)
 abbrev pub bufferOf : List ℕ → Board → List ℕ
 bufferOf d b = put d 0 (partOf d b)
 

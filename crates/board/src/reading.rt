@@ -6,6 +6,7 @@ use crate::HEAD;
 use crate::MOST_COMPONENTS;
 use crate::ReadBoard;
 use crate::Refusal;
+use crate::Ruling;
 use crate::UUID_BYTES;
 use crate::Verdict;
 ghost use mathlib.Core.Path.{_≡_};
@@ -13,7 +14,7 @@ ghost use Prim.Native.Nat.{_+_, _*_, _<_, _≤_};
 ghost use lib.ListN.{length};
 ghost use Rattle.bitfield.specs.Bits.{widest, valueAt};
 ghost use Rattle.board.specs.Description.{mostComponents, uuidBytes, blank, blankBoard};
-ghost use Rattle.board.specs.Packed.{startOf, lengthOf, componentLength, componentsIn, uuidAt, componentAt, componentsAt, boardAt, reservedClear, shapeOf, accepted, unread, settle};
+ghost use Rattle.board.specs.Packed.{startOf, lengthOf, componentLength, componentsIn, uuidAt, componentAt, componentsAt, boardAt, reservedClear, shapeOf, accepted, unread, settle, ruledAs};
 
 // The bits of a UUID.
 const UUID_BITS: usize = 128;
@@ -199,14 +200,14 @@ pub(crate) fn refused(x: Refusal) -> ReadBoard
 }
 
 // A description that was judged.
-pub(crate) fn settled(v: Verdict, b: Board) -> ReadBoard
-    ensures { λ r. ⌜ r ≡ settle v (accepted b) ⌝ }
+pub(crate) fn settled(v: Ruling, b: Board) -> ReadBoard
+    ensures { λ r. ⌜ r ≡ settle (ruledAs v) (accepted b) ⌝ }
 {
     match v {
-        Verdict::Accepted => ReadBoard {
+        Ruling::Kept => ReadBoard {
             verdict: Verdict::Accepted,
             board: b,
         },
-        Verdict::Refused(x) => refused(x),
+        Ruling::Broken(x) => refused(x),
     }
 }

@@ -4,8 +4,8 @@ use crate::Component;
 use crate::MOST_COMPONENTS;
 use crate::MOST_CPUS;
 use crate::Refusal;
+use crate::Ruling;
 use crate::UUID_BYTES;
-use crate::Verdict;
 ghost use mathlib.Core.Path.{_≡_};
 ghost use Prim.Native.Nat.{_<_, _≤_};
 ghost use Rattle.board.specs.Description.{mostComponents, withinLimit, countsOf, partedOf, unseen, apart, distinct, sameUuid, judgedOf, isBlank, blankPast};
@@ -108,21 +108,21 @@ fn is_apart(b: Board) -> bool
     true
 }
 
-pub(crate) fn judged(b: Board) -> Verdict
+pub(crate) fn judged(b: Board) -> Ruling
     requires { ⌜ b .components ≤ mostComponents ⌝ }
     ensures { λ r. ⌜ r ≡ judgedOf b ⌝ }
 {
     if b.first > b.last {
-        return Verdict::Refused(Refusal::FirstAboveLast);
+        return Ruling::Broken(Refusal::FirstAboveLast);
     }
     if is_apart(b) {
         if is_distinct(b) {
-            Verdict::Accepted
+            Ruling::Kept
         } else {
-            Verdict::Refused(Refusal::UuidTwice)
+            Ruling::Broken(Refusal::UuidTwice)
         }
     } else {
-        Verdict::Refused(Refusal::OptionalMayReset)
+        Ruling::Broken(Refusal::OptionalMayReset)
     }
 }
 
@@ -145,13 +145,13 @@ fn has_counts(b: Board) -> bool
     }
 }
 
-pub(crate) fn writable(b: Board) -> Verdict
+pub(crate) fn writable(b: Board) -> Ruling
     ensures { λ r. ⌜ r ≡ writableOf b ⌝ }
 {
     if has_counts(b) {
         judged(b)
     } else {
-        Verdict::Refused(Refusal::CountOutside)
+        Ruling::Broken(Refusal::CountOutside)
     }
 }
 
@@ -159,8 +159,8 @@ pub(crate) fn is_writable(b: Board) -> bool
     ensures { λ r. ⌜ r ≡ isWritable b ⌝ }
 {
     match writable(b) {
-        Verdict::Accepted => true,
-        Verdict::Refused(_) => false,
+        Ruling::Kept => true,
+        Ruling::Broken(_) => false,
     }
 }
 

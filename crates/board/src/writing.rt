@@ -13,7 +13,7 @@ ghost use lib.ListN.{length};
 ghost use Rattle.basics.specs.Places.{inTurn};
 ghost use Rattle.bitfield.specs.Bits.{widestBytes, bytes, put};
 ghost use Rattle.board.specs.Description.{mostComponents, uuidBytes, Counted};
-ghost use Rattle.board.specs.declared.Verdict.the-variants.{Accepted};
+ghost use Rattle.board.specs.declared.Ruling.the-variants.{Kept};
 ghost use Rattle.board.specs.Packed.{flagsNumber, lengthOf, componentLength, headLength, headBytes, componentBytes, bytesAt, lengthIn, putBy, partBy, Typed, EachTyped, DescribedIf};
 
 // The bytes at which the head's words start, past the counts.
@@ -93,7 +93,7 @@ fn put_components(buf: &mut [u8], b: Board)
 // A description that may be written, where there is room for it.
 pub(crate) fn put_writable(buf: &mut [u8], b: Board) -> Written
     requires { ⌜ Counted b ⌝ }
-    ensures { λ r. ⌜ r ≡ putBy Accepted (length (now (buf .entry))) (lengthOf (b .components)) ⌝ }
+    ensures { λ r. ⌜ r ≡ putBy Kept (length (now (buf .entry))) (lengthOf (b .components)) ⌝ }
     ensures { λ r. ⌜ now (buf .exit) ≡ put (now (buf .entry)) 0 (partBy r b) ⌝ }
     ensures { λ r. ⌜ lengthIn r ≡ length (partBy r b) ⌝ }
     ensures { λ r. ⌜ DescribedIf r b ⌝ }

@@ -1,9 +1,12 @@
 -- What is computed of the states in order holds of every state. Assumes nothing.
-use Prim.Native.Nat.{ℕ}
-use mathlib.Core.Path.{_≡_, ap}
+use Prim.Native.Nat.{ℕ, _<_}
+use mathlib.Core.Path.{_≡_, refl, ap}
+use mathlib.Core.Bool.{true}
 use mathlib.Core.List.{List, map}
+use lib.Dec.{ltb}
 use lib.ListN.{getD}
-use Rattle.board_record.specs.Record.{inOrder}
+use borrow.Author.Tests.{ltb-true}
+use Rattle.board_record.specs.Record.{placeOf, inOrder, stateCount}
 use Rattle.board_record.specs.declared.State.{State}
 use Rattle.board_record.specs.declared.State.the-variants.{Idle, Preparing, HalfPrepared, Ready, Gathering, Together, Alone, HalfActivated, Dead}
 
@@ -23,3 +26,7 @@ module _ {A : Type 0} (f g : State → A) (same : (c : ℕ) → map f (inOrder c
   every-state (Alone c) = same-at c 6
   every-state (HalfActivated c) = same-at c 7
   every-state Dead = same-at 0 8
+
+-- each has a place in the table
+pub place-below : (s : State) → placeOf s < stateCount
+place-below s = ltb-true (placeOf s) stateCount (every-state (λ t. ltb (placeOf t) stateCount) (λ t. true) (λ c. refl) s)

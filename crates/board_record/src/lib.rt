@@ -20,6 +20,9 @@ pub enum State {
     Dead,
 }
 
+// How many states there are; a new one takes the next place.
+pub const STATES: usize = 9;
+
 // The places of these in the table of rules that rules ask for by name.
 pub const PREPARING: usize = 1;
 

@@ -1,25 +1,27 @@
--- Records as numbers and back: on what is well formed each way undoes the other. Assumes nothing.
-use Prim.Native.Nat.{ℕ, zero, suc, _<_}
-use mathlib.Core.Path.{_≡_, refl, sym, ap, _∙_}
+-- Records as numbers and back, each way undoing the other on what is well formed: flags by cases, states along their order, tables at
+-- each place. Assumes nothing.
+use Prim.Native.Nat.{ℕ, zero, suc, _<_, _≤_}
+use mathlib.Core.Path.{_≡_, refl, ap, _∙_}
 use mathlib.Core.Bool.{Bool, true, false, _&&_}
-use mathlib.Core.List.{List}
-use lib.Dec.{eqb}
+use mathlib.Core.List.{List, [], _∷_}
+use lib.Dec.{eqb, ltb}
 use lib.ListN.{length, getD}
-use borrow.Author.Tests.{eqb-true, leb-true, ltb-true, le-leb}
+use borrow.Author.Tests.{eq-eqb, eqb-true, leb-true, ltb-true, le-leb, lt-ltb}
 use native.Mathlib.Omega.{arith}
-use Rattle.basics.specs.Choice.{refuted, and-left, and-right}
-use Rattle.basics.specs.Every.{all-at, all-of}
+use Rattle.basics.specs.Choice.{both, and-left, and-right}
+use Rattle.basics.specs.Every.{allBelow, all-at, all-of}
 use Rattle.basics.specs.Places.{firsts, firsts-same, firsts-all, getD-firsts}
 use Rattle.board.specs.Description.{mostComponents, mostCpus, absent}
 use Rattle.board.specs.Packed.{digitOf, flagIn}
 use Rattle.board.specs.declared.Board.{Board}
 use Rattle.board.specs.declared.Component.{Component}
 use Rattle.board.proofs.Laws.{digit-fits, flag-digit, digit-flag}
-use Rattle.board_record.specs.Record.{placeOf, subjectNumber}
+use Rattle.board_record.specs.Record.{placeOf, inOrder, stateCount, subjectNumber}
 use Rattle.board_record.specs.declared.Record.{Record}
 use Rattle.board_record.specs.declared.State.{State}
+use Rattle.board_record.specs.declared.State.the-variants.{Dead}
 use Rattle.board_record.proofs.Clauses.{Sized}
-use Rattle.board_record.proofs.States.{every-state}
+use Rattle.board_record.proofs.States.{every-state, place-below}
 use Rattle.flat.specs.Records.{isFlag, flatFlags, areFlags, stateIn, isState, flatComponent, componentIn, isFlatComponent, absentFlat, flatComponents, componentsIn, areFlatComponents, flatBoard, boardIn, flatWith, flatOf, recordIn, isFlat}
 use Rattle.flat.specs.declared.FlatBoard.{FlatBoard}
 use Rattle.flat.specs.declared.FlatComponent.{FlatComponent}
@@ -44,31 +46,28 @@ flag-there n e = digit-flag n (omega (arith, leb-true n 1 e))
 pub state-back : (s : State) → stateIn (placeOf s) (subjectNumber s) ≡ s
 state-back = every-state (λ s. stateIn (placeOf s) (subjectNumber s)) (λ s. s) (λ c. refl)
 
+-- past the last place there is none
+past-end : {A : Type 0} (l : List A) (n : ℕ) (d : A) → length l ≤ n → d ≡ getD l n d
+past-end [] n d h = refl
+past-end (x ∷ l) zero d h = absurd (omega arith)
+past-end (x ∷ l) (suc n) d h = past-end l n d (omega arith)
+
+pub past-order : (n c : ℕ) → stateCount ≤ n → Dead ≡ stateIn n c
+past-order n c h = past-end (inOrder c) n Dead h
+
 state-is : (s : State) → isState (placeOf s) (subjectNumber s) ≡ true
-state-is = every-state (λ s. isState (placeOf s) (subjectNumber s)) (λ s. true) (λ c. refl)
+state-is s = rw (lt-ltb (placeOf s) stateCount (place-below s), state-back s, eq-eqb (subjectNumber s) _ refl)
+
+-- the place of the state at each place is that place: one test over the table
+place-there : (c n : ℕ) → n < stateCount → placeOf (stateIn n c) ≡ n
+unfolding allBelow
+place-there c n h = eqb-true (placeOf (stateIn n c)) n (all-at stateCount (λ i. eqb (placeOf (stateIn i c)) i) refl n h)
 
 -- a number and a component are those of the state that they make
-abbrev Makes : ℕ → ℕ → Type 0
-Makes n c = (placeOf (stateIn n c) ≡ n) × (subjectNumber (stateIn n c) ≡ c)
-
--- past dead there is no state
-past-dead : (n c : ℕ) → 8 < n → isState n c ≡ true → ⊥
-past-dead n c h e =
-    let first : eqb n 0 ≡ false = refuted (eqb n 0) (λ q. let z = eqb-true n 0 q in omega arith) in
-    let last : eqb n 8 ≡ false = refuted (eqb n 8) (λ q. let z = eqb-true n 8 q in omega arith) in
-    let l = ltb-true n 8 (rw (first, last) at e) in omega arith
-
-pub state-there : (n c : ℕ) → isState n c ≡ true → Makes n c
-state-there zero c e = (refl, sym (eqb-true c 0 e))
-state-there (suc zero) c e = (refl, refl)
-state-there (suc (suc zero)) c e = (refl, refl)
-state-there (suc (suc (suc zero))) c e = (refl, refl)
-state-there (suc (suc (suc (suc zero)))) c e = (refl, refl)
-state-there (suc (suc (suc (suc (suc zero))))) c e = (refl, refl)
-state-there (suc (suc (suc (suc (suc (suc zero)))))) c e = (refl, refl)
-state-there (suc (suc (suc (suc (suc (suc (suc zero))))))) c e = (refl, refl)
-state-there (suc (suc (suc (suc (suc (suc (suc (suc zero)))))))) c e = (refl, sym (eqb-true c 0 e))
-state-there (suc (suc (suc (suc (suc (suc (suc (suc (suc n))))))))) c e = absurd (past-dead (suc (suc (suc (suc (suc (suc (suc (suc (suc n))))))))) c (omega arith) e)
+pub state-there : (n c : ℕ) → isState n c ≡ true → (placeOf (stateIn n c) ≡ n) × (subjectNumber (stateIn n c) ≡ c)
+state-there n c e =
+    let t = both (ltb n stateCount) (eqb (subjectNumber (stateIn n c)) c) e in
+    (place-there c n (ltb-true n stateCount (t .0)), eqb-true (subjectNumber (stateIn n c)) c (t .1))
 
 -- ---- components and boards
 pub component-back : (c : Component) → componentIn (flatComponent c) ≡ c

@@ -1,7 +1,6 @@
 -- What a host's calls answer: the agent, the log and the plain reader through numbers. Assumes nothing.
 use Prim.Native.Nat.{ℕ}
 use mathlib.Core.List.{List}
-use lib.Dec.{ltb}
 use Rattle.basics.specs.Choice.{pick}
 use Rattle.codes.specs.declared.Call.{Call}
 use Rattle.board.specs.Packed as board
@@ -13,10 +12,10 @@ use Rattle.board.specs.declared.Board.{Board}
 use Rattle.board.specs.declared.Refusal.the-variants.{ReservedBit}
 use Rattle.board.specs.declared.Written.the-variants.{Nothing}
 use Rattle.board_record.specs.Record.{freshOf}
-use Rattle.board_record.specs.WellFormed.{wellFormed}
 use Rattle.board_record.specs.declared.Record.{Record}
+use Rattle.rules.specs.Decide.{admitted}
 use Rattle.rules.specs.Statuses.{numberOf as ruleNumber}
-use Rattle.rules.specs.declared.Refusal.the-variants.{NotWellFormed, TableShort}
+use Rattle.rules.specs.declared.Refusal.the-variants.{NotWellFormed}
 use Rattle.agent.specs.Step as agent
 use Rattle.agent.specs.declared.Stepped.{Stepped}
 use Rattle.log_record.specs.Packed as packed
@@ -70,12 +69,7 @@ throughOf f s = record { rec = flatWith (f .board) (s .rec); answer = answerOf (
 
 -- a kind that is none of the four: 9 and 1 first, as for any event, then 32
 unfoldable pub noEvent : Record → ℕ → ℕ → ℕ
-noEvent r n m =
-    pick (wellFormed r)
-    (pick (ltb n (r .board .cpus)) (ruleNumber TableShort)
-    (pick (ltb m (r .board .cpus)) (ruleNumber TableShort)
-    (logNumber log-refusal.Unknown)))
-    (ruleNumber NotWellFormed)
+noEvent r n m = admitted ruleNumber r n m (logNumber log-refusal.Unknown)
 
 abbrev pub stepBy : Read → FlatRecord → ℕ → ℕ → FlatStepped
 stepBy (Known e) f n m = throughOf f (agent.stepOf (recordIn f) e n m)

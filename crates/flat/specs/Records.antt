@@ -13,11 +13,11 @@ use Rattle.board.specs.Description.{mostComponents, mostCpus, uuidBytes, absent
 use Rattle.board.specs.Packed.{digitOf, flagIn}
 use Rattle.board.specs.declared.Board.{Board}
 use Rattle.board.specs.declared.Component.{Component}
-use Rattle.board_record.specs.Record.{placeOf, subjectNumber}
+use Rattle.board_record.specs.Record.{placeOf, inOrder, stateCount, subjectNumber}
 use Rattle.board_record.specs.WellFormed.{wellFormed}
 use Rattle.board_record.specs.declared.Record.{Record}
 use Rattle.board_record.specs.declared.State.{State}
-use Rattle.board_record.specs.declared.State.the-variants.{Idle, Preparing, HalfPrepared, Ready, Gathering, Together, Alone, HalfActivated, Dead}
+use Rattle.board_record.specs.declared.State.the-variants.{Dead}
 use Rattle.flat.specs.declared.FlatBoard.{FlatBoard}
 use Rattle.flat.specs.declared.FlatComponent.{FlatComponent}
 use Rattle.flat.specs.declared.FlatRecord.{FlatRecord}
@@ -35,22 +35,13 @@ flagsIn from = firsts mostComponents (λ i. flagIn (getD from i 0))
 abbrev pub areFlags : List ℕ → Bool
 areFlags all = allBelow mostComponents (λ i. isFlag (getD all i 0))
 
--- ---- states: by their place in document 01's table of rules, from idle, 0, to dead, 8
+-- ---- states: by their place in document 01's table of rules, from idle, 0, on; `isState` asks that there is one
 abbrev pub stateIn : ℕ → ℕ → State
-stateIn n c =
-    pick (eqb n 0) Idle
-    (pick (eqb n 1) (Preparing c)
-    (pick (eqb n 2) (HalfPrepared c)
-    (pick (eqb n 3) (Ready c)
-    (pick (eqb n 4) (Gathering c)
-    (pick (eqb n 5) (Together c)
-    (pick (eqb n 6) (Alone c)
-    (pick (eqb n 7) (HalfActivated c)
-    Dead)))))))
+stateIn n c = getD (inOrder c) n Dead
 
--- "idle and dead have none"
+-- in idle and dead, which have none, it is 0
 abbrev pub isState : ℕ → ℕ → Bool
-isState n c = pick (eqb n 0) (eqb c 0) (pick (eqb n 8) (eqb c 0) (ltb n 8))
+isState n c = ltb n stateCount && eqb (subjectNumber (stateIn n c)) c
 
 -- ---- components
 unfoldable pub flatComponent : Component → FlatComponent

@@ -54,8 +54,8 @@ pub struct FlatBoard {
     pub component: [FlatComponent; MOST_COMPONENTS],
 }
 
-// A board's record. The state is a number from 0 (idle) to 8 (dead), in the order of document 01's table of rules; subject is
-// its component, and 0 in idle and dead.
+// A board's record. The state is its place in document 01's table of rules, from 0 (idle) on; subject is its component, and 0
+// in idle and dead.
 #[repr(C)]
 pub struct FlatRecord {
     pub board: FlatBoard,
@@ -189,17 +189,10 @@ pub fn fresh(board: &[u8]) -> FlatFresh
 fn no_event(rec: Record, entries: usize, contexts: usize) -> u64
     ensures { λ r. ⌜ r ≡ noEvent rec entries contexts ⌝ }
 {
-    let cpus = rec.board.cpus;
-    if board_record::is_well_formed(rec) {
-        if (entries as u64) < cpus {
-            return rules::number(rules::Refusal::TableShort);
-        }
-        if (contexts as u64) < cpus {
-            return rules::number(rules::Refusal::TableShort);
-        }
-        return log_record::number(log_record::Refusal::Unknown);
+    match rules::admit(rec, entries, contexts) {
+        rules::Admission::Refused(x) => rules::number(x),
+        rules::Admission::Admitted => log_record::number(log_record::Refusal::Unknown),
     }
-    rules::number(rules::Refusal::NotWellFormed)
 }
 
 // One event. In the two tables only the places of CPUs that resume by entry are written.

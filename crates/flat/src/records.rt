@@ -8,6 +8,7 @@ use board::MOST_COMPONENTS;
 use board::MOST_CPUS;
 use board::UUID_BYTES;
 use board_record::Record;
+use board_record::STATES;
 use board_record::State;
 use board_record::Subject;
 ghost use mathlib.Core.Path.{_≡_};
@@ -17,10 +18,8 @@ ghost use Rattle.board.specs.Packed.{digitOf};
 ghost use Rattle.board_record.specs.Record.{subjectNumber};
 ghost use Rattle.flat.specs.Records.{stateIn, isState, flatComponent, componentIn, isFlatComponent, blankFlat, flatComponents, componentsIn, areFlatComponents, withinCount, hasFlags, flatFlags, flagsIn, areFlags, flatBoard, boardIn, flatWith, flatOf, recordIn, isFlat, zeroRecord};
 
-// The number of idle, and of dead, which have no component.
+// The number of idle.
 const IDLE: u64 = 0;
-
-const DEAD: u64 = 8;
 
 fn digit(b: bool) -> u8
     ensures { λ r. ⌜ r ≡ digitOf b ⌝ }
@@ -37,7 +36,7 @@ fn subject_number(s: State) -> u64
     }
 }
 
-// The state of this number and component; of a number that is no state's, dead.
+// The state of this number and component; of a number that is no state's, which `is_state` refuses, dead.
 fn state(number: u64, c: u64) -> State
     ensures { λ s. ⌜ s ≡ stateIn number c ⌝ }
 {
@@ -50,6 +49,7 @@ fn state(number: u64, c: u64) -> State
         5 => State::Together(c),
         6 => State::Alone(c),
         7 => State::HalfActivated(c),
+        8 => State::Dead,
         _ => State::Dead,
     }
 }
@@ -57,11 +57,10 @@ fn state(number: u64, c: u64) -> State
 fn is_state(number: u64, c: u64) -> bool
     ensures { λ r. ⌜ r ≡ isState number c ⌝ }
 {
-    match number {
-        IDLE => c == 0,
-        DEAD => c == 0,
-        _ => number < DEAD,
+    if number < STATES as u64 {
+        return subject_number(state(number, c)) == c;
     }
+    false
 }
 
 fn flat_component(c: Component) -> FlatComponent

@@ -4,5 +4,6 @@ pub mod States
 pub mod Named
 pub mod Facts
 pub mod Guards
+pub mod Admitted
 pub mod Moves
 pub mod Pinned

@@ -1,8 +1,8 @@
--- What is decided, in document 01's numbers: the refusal is the first of its table that applies, and what is accepted is told as
--- its kind of event is. Assumes nothing.
+-- What is decided, in document 01's numbers: a refusal is the first of its table, and past these tests no call is refused (`Free`);
+-- what is accepted is told as its kind of event is, by its move's facts. Assumes nothing.
 use Prim.Native.Nat.{ℕ}
 use mathlib.Core.Path.{_≡_, refl}
-use mathlib.Core.Bool.{Bool, true, false, not, _&&_, _||_}
+use mathlib.Core.Bool.{Bool, true, false, not, _&&_}
 use mathlib.Core.List.{[], _∷_}
 use lib.Dec.{eqb, leb, ltb}
 use borrow.Author.Tests.{eq-eqb, eqb-false}
@@ -45,6 +45,7 @@ use Rattle.rules.specs.declared.numbers.Function.the-variants as functio
 use Rattle.rules.specs.declared.numbers.Decoded.{Decoded}
 use Rattle.rules.specs.declared.numbers.Decoded.the-variants.{Known, Unknown}
 use Rattle.rules.proofs.States.{PrimeSays, ActivateSays, CancelSays, PowerSays, row-says}
+use Rattle.rules.proofs.Admitted.{admitted-first}
 use Rattle.rules.proofs.Facts.{Facts}
 use Rattle.rules.proofs.Guards.{decide-guard}
 
@@ -143,7 +144,7 @@ module _ (r : Record) (call : Call) (some-free : holdingOf (r .state) ≡ All �
   answer-free (Known f) = function-free f
   answer-free Unknown = said _
 
--- ---- the table: "The first that applies, downwards and left to right, is given"
+-- ---- the table: "The first that applies" (Events 20)
 
 call-first : (absent on held : Bool) (m : Move) → (on ≡ true → held ≡ false → numbersOf m .refusal ≡ 0)
     → numbersOf (pick absent (Refuse NoSuchCpu) (pick on (pick held (Refuse CpuHeld) m) (Refuse CpuOff))) .refusal ≡ firstOf ((2, absent) ∷ (3, not on) ∷ (4, held) ∷ [])
@@ -167,15 +168,6 @@ image-first false its m f = refl
 image-first true true m f = refl
 image-first true false m f = f
 
-event-first : (stands entries contexts : Bool) (m : Move) (next : ℕ) → (stands ≡ true → numbersOf m .refusal ≡ next)
-    → numbersOf (pick stands (pick entries (Refuse TableShort) (pick contexts (Refuse TableShort) m)) (Refuse NotWellFormed)) .refusal
-    ≡ pick (not stands) 9 (pick (entries || contexts) 1 next)
-unfolding refusedWith
-event-first false entries contexts m next h = refl
-event-first true true contexts m next h = refl
-event-first true false true m next h = refl
-event-first true false false m next h = h refl
-
 of-event : (r : Record) (e : Event) → wellFormed r ≡ true → numbersOf (eventOf r e) .refusal ≡ firstOf (rowsFor r e)
 unfolding callOf answerOf primeReportOf activateReportOf imageOf toldAs
 of-event r (event.Call call) w =
@@ -187,9 +179,9 @@ of-event r (event.Activate p) w =
 of-event r (event.Image i) w = image-first (isCapable (r .board) (i .component)) (isFor (r .state) (i .component)) (NoteImage i) refl
 
 refusal-given : (r : Record) (e : Event) (entries contexts : ℕ) → numbersOf (decideOf r e entries contexts) .refusal ≡ firstOf (eventRows r e entries contexts)
-unfolding decideOf
+unfolding decideOf refusedWith
 refusal-given r e entries contexts =
-    event-first (wellFormed r) (ltb entries (r .board .cpus)) (ltb contexts (r .board .cpus)) (eventOf r e) (firstOf (rowsFor r e)) (of-event r e)
+    admitted-first Refuse (λ (m : Move). numbersOf m .refusal) (λ x. refl) r entries contexts (eventOf r e) (rowsFor r e) (of-event r e)
 
 -- ---- a refusal comes with nothing else, and what is accepted is told
 

@@ -1,7 +1,7 @@
--- The table of rules (document 01, "Calls"): "one row for each state and one cell for each call". Assumes nothing.
+-- The table of rules (document 01, "Calls", from Calls 9 to 19). Assumes nothing.
 use Prim.Native.Nat.{ℕ}
 use mathlib.Core.List.{map}
-use lib.ListN.{length, getD}
+use lib.ListN.{getD}
 use Rattle.board_record.specs.Record.{inOrder}
 use Rattle.board_record.specs.declared.State.{State}
 use Rattle.board_record.specs.declared.State.the-variants.{Idle, Preparing, HalfPrepared, Ready, Gathering, Together, Alone, HalfActivated, Dead}
@@ -31,10 +31,7 @@ ruleOf (Alone c) = cells (prime.Answers 7) activate.Try (cancel.Answers 2) power
 ruleOf (HalfActivated c) = cells (prime.Answers 7) activate.Try cancel.ToIdle power.Frozen
 ruleOf Dead = cells (prime.Answers 7) (activate.Answers 7) (cancel.Answers 0) power.Free
 
--- the code's table has a row for each of the states in order
-abbrev pub states : ℕ
-states = length (inOrder 0)
-
--- no state asks for a row past the last: the first cell of each kind there is the kit's reading of an array past its end
+-- the code's table has a row for each of the states in order; no state asks for a row past the last: the first cell of each kind
+-- there is the kit's reading of an array past its end
 abbrev pub rowAt : ℕ → Row
 rowAt i = getD (map ruleOf (inOrder 0)) i (cells prime.Try activate.Try cancel.ToIdle power.Free)

@@ -1,8 +1,10 @@
-// The table of rules: one row for each state, one cell for each call.
+// The table of rules: a row of cells for each state.
+use board_record::STATES;
 use board_record::State;
 ghost use mathlib.Core.Path.{_≡_};
 ghost use Prim.Native.Nat.{_<_};
-ghost use Rattle.rules.specs.Table.{rowAt, ruleOf, states};
+ghost use Rattle.board_record.specs.Record.{stateCount};
+ghost use Rattle.rules.specs.Table.{rowAt, ruleOf};
 
 // What PRIME does: the try, the try of the state's component alone, or a status -k.
 pub enum PrimeCell {
@@ -36,9 +38,6 @@ pub struct Row {
     pub cancel: CancelCell,
     pub power: PowerCell,
 }
-
-// How many states there are.
-const STATES: usize = 9;
 
 const RULES: [Row; STATES] = [
     // idle
@@ -107,7 +106,7 @@ const RULES: [Row; STATES] = [
 ];
 
 fn row_at(i: usize) -> Row
-    requires { ⌜ i < states ⌝ }
+    requires { ⌜ i < stateCount ⌝ }
     ensures { λ r. ⌜ r ≡ rowAt i ⌝ }
 {
     RULES[i]

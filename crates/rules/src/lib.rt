@@ -6,8 +6,10 @@ mod reports;
 
 ghost use mathlib.Core.Path.{_≡_};
 ghost use Rattle.rules.specs.Statuses.{minusOf, numberOf};
-ghost use Rattle.rules.specs.Decide.{decideOf};
-ghost use Rattle.rules.specs.Moves.{numbersOf, Decided};
+ghost use mathlib.Core.List.{[]};
+ghost use Rattle.basics.specs.First.{firstOf};
+ghost use Rattle.rules.specs.Decide.{admissionOf, decideOf};
+ghost use Rattle.rules.specs.Moves.{refusalOf, admissionRows, numbersOf, Decided};
 use board_record::Record;
 use codes::Call;
 
@@ -44,6 +46,12 @@ pub enum Refusal {
     CodeNotAllowed,
     NotCapable,
     StateComponent,
+}
+
+// Whether the rules of an event are asked at all.
+pub enum Admission {
+    Admitted,
+    Refused(Refusal),
 }
 
 // What a caller goes on with.
@@ -115,26 +123,36 @@ pub fn minus(k: u64) -> u64
     }
 }
 
+// What every event is asked first, whatever it is: a well-formed record, and two resume tables of so many places.
+pub fn admit(rec: Record, entry_places: usize, context_places: usize) -> Admission
+    ensures { λ a. ⌜ a ≡ admissionOf rec «entry_places» «context_places» ⌝ }
+    ensures { λ a. ⌜ refusalOf a ≡ firstOf (admissionRows rec «entry_places» «context_places» []) ⌝ }
+{
+    let cpus = rec.board.cpus;
+    if board_record::is_well_formed(rec) {
+        if (entry_places as u64) < cpus {
+            return Admission::Refused(Refusal::TableShort);
+        }
+        if (context_places as u64) < cpus {
+            return Admission::Refused(Refusal::TableShort);
+        }
+        return Admission::Admitted;
+    }
+    Admission::Refused(Refusal::NotWellFormed)
+}
+
 // What an event calls for, where the two resume tables have so many places.
 pub fn decide(rec: Record, e: Event, entry_places: usize, context_places: usize) -> Move
     ensures { λ r. ⌜ r ≡ decideOf rec e «entry_places» «context_places» ⌝ }
     ensures { λ r. ⌜ Decided rec e «entry_places» «context_places» (numbersOf r) ⌝ }
 {
-    if board_record::is_well_formed(rec) {
-        let cpus = rec.board.cpus;
-        if (entry_places as u64) < cpus {
-            return Move::Refuse(Refusal::TableShort);
-        }
-        if (context_places as u64) < cpus {
-            return Move::Refuse(Refusal::TableShort);
-        }
-        match e {
+    match admit(rec, entry_places, context_places) {
+        Admission::Refused(x) => Move::Refuse(x),
+        Admission::Admitted => match e {
             Event::Call(call) => calls::call(rec, call),
             Event::Prime(report) => reports::prime(rec, report),
             Event::Activate(report) => reports::activate(rec, report),
             Event::Image(image) => reports::image(rec, image),
-        }
-    } else {
-        Move::Refuse(Refusal::NotWellFormed)
+        },
     }
 }

@@ -1,3 +1,4 @@
+-- By the loop's invariant: the record is that replayed to place k, and the story that of the k records before it; so each turn is `turnAt`.
 use Prim.Native.Nat.{_-_, _≤_}
 use native.Mathlib.Omega.{arith}
 use mathlib.Core.Path.{_≡_, ap, _∙_}

@@ -1,3 +1,4 @@
+-- To show is that both files lie in their buffers: `files::read` promises it of the length that it gives.
 use borrow.Author.Needs.{needs}
 use Rattle.bench.proofs.main.Statement.{statement}
 use Rattle.bench.proofs.main.Tie as tie

@@ -1,4 +1,7 @@
-use borrow.Author.Tests.{ne-eqb}
+-- One case for each number that the match names, by which `stateIn` computes; any other is past the order, and dead is left.
+use Prim.Native.Nat.{_≤_}
+use native.Mathlib.Omega.{arith}
+use Rattle.flat.proofs.Inverse.{past-order}
 use Rattle.flat.proofs.records.state.Statement.{statement}
 use Rattle.flat.proofs.records.state.Tie as tie
 
@@ -27,9 +30,15 @@ returns-8 : tie.Need-returns-8
 returns-8 c = rw (c .match .keys8)
 
 returns-9 : tie.Need-returns-9
-returns-9 c =
+returns-9 c = rw (c .match .keys9)
+
+returns-10 : tie.Need-returns-10
+returns-10 c =
     let r = c .match .rest in
-    rw (ne-eqb _ _ (r .0 .0 .0 .0 .0 .0 .0 .1), ne-eqb _ _ (r .0 .0 .0 .0 .0 .0 .1), ne-eqb _ _ (r .0 .0 .0 .0 .0 .1), ne-eqb _ _ (r .0 .0 .0 .0 .1), ne-eqb _ _ (r .0 .0 .0 .1), ne-eqb _ _ (r .0 .0 .1), ne-eqb _ _ (r .0 .1), ne-eqb _ _ (r .1))
+    let n = c .before .args .number in
+    let first = r .0 .0 .0 .0 in
+    let over : 5 ≤ n = omega (arith, first .0 .0 .0 .0 .1, first .0 .0 .0 .1, first .0 .0 .1, first .0 .1, first .1) in
+    past-order n _ (omega (arith, over, r .0 .0 .0 .1, r .0 .0 .1, r .0 .1, r .1))
 
 pub state-spec : {M : Type 1} → statement M
 state-spec =
@@ -43,4 +52,5 @@ state-spec =
     returns-6
     returns-7
     returns-8
-    returns-9)
+    returns-9
+    returns-10)

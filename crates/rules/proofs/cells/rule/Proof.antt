@@ -1,5 +1,6 @@
 use mathlib.Core.Path.{_∙_}
-use Rattle.rules.proofs.Table.{place-below, row-rule}
+use Rattle.board_record.proofs.States.{place-below}
+use Rattle.rules.proofs.Table.{row-rule}
 use borrow.Author.Needs.{needs}
 use Rattle.rules.proofs.cells.rule.Statement.{statement}
 use Rattle.rules.proofs.cells.rule.Tie as tie
