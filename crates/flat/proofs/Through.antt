@@ -48,8 +48,8 @@ use Rattle.flat.specs.declared.FlatBoard.{FlatBoard}
 use Rattle.flat.specs.declared.FlatEvent.{FlatEvent}
 use Rattle.flat.specs.declared.FlatRecord.{FlatRecord}
 use Rattle.flat.specs.declared.FlatStepped.{FlatStepped}
-use Rattle.flat.specs.declared.answers.Read.{Read}
-use Rattle.flat.specs.declared.answers.Read.the-variants.{Known, Unknown}
+use Rattle.trace.specs.declared.Read.{Read}
+use Rattle.trace.specs.declared.Read.the-variants.{Known, Unknown}
 use Rattle.flat.proofs.Inverse.{SizedFlat, board-there, flat-is, record-back, flat-there}
 
 -- ---- answers: read back from their numbers, so that nothing is lost in them

@@ -38,8 +38,8 @@ use Rattle.flat.specs.declared.FlatPrepared.{FlatPrepared}
 use Rattle.flat.specs.declared.FlatRead.{FlatRead}
 use Rattle.flat.specs.declared.FlatStarted.{FlatStarted}
 use Rattle.flat.specs.declared.FlatWritten.{FlatWritten}
-use Rattle.flat.specs.declared.answers.Read.{Read}
-use Rattle.flat.specs.declared.answers.Read.the-variants.{Known, Unknown}
+use Rattle.trace.specs.declared.Read.{Read}
+use Rattle.trace.specs.declared.Read.the-variants.{Known, Unknown}
 
 -- ---- events: kinds as the log numbers them (Packed 3)
 abbrev pub eventIn : FlatEvent → Read

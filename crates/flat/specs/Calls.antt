@@ -36,8 +36,8 @@ use Rattle.flat.specs.declared.FlatRecord.{FlatRecord}
 use Rattle.flat.specs.declared.FlatStarted.{FlatStarted}
 use Rattle.flat.specs.declared.FlatStepped.{FlatStepped}
 use Rattle.flat.specs.declared.FlatWritten.{FlatWritten}
-use Rattle.flat.specs.declared.answers.Read.{Read}
-use Rattle.flat.specs.declared.answers.Read.the-variants.{Known, Unknown}
+use Rattle.trace.specs.declared.Read.{Read}
+use Rattle.trace.specs.declared.Read.the-variants.{Known, Unknown}
 
 -- ---- the library itself: its ABI number, which rises with every layout, and the bytes of what a host lends and gets
 -- (crates/flat/proofs/Sizes.antt shows that these are the bytes of the types)

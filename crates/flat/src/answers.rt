@@ -35,15 +35,10 @@ use logbook::Primed;
 use reader::Started;
 use rules::Event;
 use rules::Registers;
+use trace::Read;
 ghost use mathlib.Core.Path.{_≡_};
 ghost use Rattle.flat.specs.Answers.{eventIn, refusedAnswer, answerOf, callerIn, releaseIn, loggedIn, writtenBy, describedBy, readBy, primedFound, foundOf, notFound, startedFound, preparedBy, notStarted, logRefused, startedBy};
 ghost use Rattle.flat.specs.Calls.{keptWith, throughOf};
-
-// An event, or none of the four.
-pub enum Read {
-    Known(Event),
-    Unknown,
-}
 
 pub(crate) fn event(e: FlatEvent) -> Read
     ensures { λ r. ⌜ r ≡ eventIn e ⌝ }

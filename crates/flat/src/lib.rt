@@ -16,6 +16,7 @@ use log_record::LogRecord;
 use rules::Image;
 use rules::Registers;
 use rules::Report;
+use trace::Read;
 
 // The number of this layout, which rises with every other one, and the bytes of its structs.
 const ABI: u64 = 1;
@@ -204,11 +205,11 @@ pub fn step(f: FlatRecord, e: FlatEvent, entries: &mut [u64], contexts: &mut [u6
     if records::is_flat(f) {
         let rec = records::record(f);
         match answers::event(e) {
-            answers::Read::Known(event) => {
+            Read::Known(event) => {
                 let s = agent::step(rec, event, entries, contexts);
                 answers::stepped(f, s)
             }
-            answers::Read::Unknown => {
+            Read::Unknown => {
                 let number = no_event(rec, entries.len(), contexts.len());
                 answers::refused(f, number)
             }

@@ -49,7 +49,7 @@ turn c =
     turned-at _ _ _ _ _ _ _ (i .0) (i .1) (c .before .said-at .ensures) (c .turned .ensures .0)
 
 line-requires : tie.Need-line-requires Inv-loop μ-loop
-line-requires c κs = turn c
+line-requires c κs = (c .before .said-at .ensures, turn c)
 
 told-requires : tie.Need-told-requires Inv-loop μ-loop
 told-requires c κs = search needs

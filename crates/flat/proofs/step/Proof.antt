@@ -18,7 +18,7 @@ use Rattle.flat.specs.Records.{recordIn, isFlat}
 use Rattle.flat.specs.declared.FlatEvent.{FlatEvent}
 use Rattle.flat.specs.declared.FlatRecord.{FlatRecord}
 use Rattle.flat.specs.declared.FlatStepped.{FlatStepped}
-use Rattle.flat.specs.declared.answers.Read.the-variants.{Known, Unknown}
+use Rattle.trace.specs.declared.Read.the-variants.{Known, Unknown}
 use Rattle.flat.proofs.step.Statement.{statement}
 use Rattle.flat.proofs.step.Tie as tie
 
