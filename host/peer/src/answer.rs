@@ -1,5 +1,7 @@
 //! What the agent answers to an accepted event.
 
+use crate::CpuSet;
+
 /// The answer to an accepted event.
 #[derive(Clone, Copy, PartialEq, Eq, Debug)]
 pub struct Answer {
@@ -26,7 +28,7 @@ pub enum Caller {
     Gone,
 }
 
-/// The release part of an answer. Sets of CPUs have bit n for CPU n.
+/// The release part of an answer.
 #[derive(Clone, Copy, PartialEq, Eq, Debug)]
 pub enum Release {
     /// Nobody is released.
@@ -34,14 +36,14 @@ pub enum Release {
     /// These CPUs return from their calls.
     Returned {
         /// The released CPUs.
-        cpus: u64,
+        cpus: CpuSet,
         /// X0 of each.
         x0: u64,
         /// X1 of each.
         x1: u64,
     },
     /// These CPUs resume at the addresses in the lent tables.
-    Resumed(u64),
+    Resumed(CpuSet),
 }
 
 impl Answer {

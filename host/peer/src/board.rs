@@ -1,6 +1,6 @@
 //! The board and its packed description.
 
-use crate::Refusal;
+use crate::{CpuSet, Refusal};
 
 /// The most components a board can have.
 pub const MAX_COMPONENTS: usize = 32;
@@ -145,8 +145,8 @@ impl Board {
 
     /// All existing CPUs. Their count has to be in its limits.
     #[inline]
-    pub(crate) fn all_cpus(&self) -> u64 {
-        u64::MAX >> (MAX_CPUS as u64 - self.cpus)
+    pub(crate) fn all_cpus(&self) -> CpuSet {
+        CpuSet::below(self.cpus)
     }
 
     /// Whether an entry address is in the range, and a multiple of 4.

@@ -61,6 +61,7 @@
 
 mod answer;
 mod board;
+mod cpus;
 mod event;
 mod log;
 mod reader;
@@ -70,6 +71,7 @@ mod step;
 
 pub use answer::{status, Answer, Caller, Release};
 pub use board::{Board, Component, MAX_COMPONENTS, MAX_CPUS};
+pub use cpus::CpuSet;
 pub use event::{Call, Event, Function, Image, Report};
 pub use log::{
     logged, prepared_at, Flaw, Log, LogRecord, Prepared, ACTIVATE, ACTIVATION_STARTED, CALL, GONE,

@@ -1,6 +1,7 @@
 //! The board's record and when it is well formed.
 
 use crate::board::{uuids_differ, Board, Component, MAX_COMPONENTS, MAX_CPUS};
+use crate::cpus::CpuSet;
 
 /// Where the agent stands, with the component it works on.
 #[derive(Clone, Copy, PartialEq, Eq, Debug)]
@@ -42,7 +43,7 @@ impl State {
     }
 }
 
-/// Everything the agent keeps about a board. Sets of CPUs have bit n for CPU n.
+/// Everything the agent keeps about a board.
 #[derive(Clone, PartialEq, Eq, Debug)]
 pub struct Record {
     /// The board.
@@ -54,9 +55,9 @@ pub struct Record {
     /// The state with its component.
     pub state: State,
     /// The powered CPUs.
-    pub on: u64,
+    pub on: CpuSet,
     /// The held CPUs.
-    pub held: u64,
+    pub held: CpuSet,
     /// Where each CPU resumes that may be reset while held, else 0.
     pub entry: [u64; MAX_CPUS],
     /// The context id of each of them, else 0.
@@ -73,8 +74,8 @@ impl Record {
             pending: [false; MAX_COMPONENTS],
             version: [0; MAX_COMPONENTS],
             state: State::Idle,
-            on: 1,
-            held: 0,
+            on: CpuSet::only(0),
+            held: CpuSet::default(),
             entry: [0; MAX_CPUS],
             context: [0; MAX_CPUS],
             informed: false,
@@ -86,8 +87,8 @@ impl Record {
         let board = &self.board;
         board.counts_in_limits()
             && board.first <= board.last
-            && self.on != 0
-            && self.on & !board.all_cpus() == 0
+            && !self.on.is_empty()
+            && self.on.is_part_of(board.all_cpus())
             && self.state_is_well_formed()
             && self.components_are_well_formed()
             && self.resumes_are_well_formed()
@@ -98,16 +99,16 @@ impl Record {
     #[inline]
     fn state_is_well_formed(&self) -> bool {
         let (on, held) = (self.on, self.held);
-        let held_as_they_should = held & !on == 0
+        let held_as_they_should = held.is_part_of(on)
             && match self.state {
-                State::Preparing(_) | State::Alone(_) => held.is_power_of_two(),
-                State::Gathering(_) => held != 0 && held != on,
+                State::Preparing(_) | State::Alone(_) => held.count() == 1,
+                State::Gathering(_) => !held.is_empty() && held.is_proper_part_of(on),
                 State::Together(_) => held == on,
                 State::Idle
                 | State::HalfPrepared(_)
                 | State::Ready(_)
                 | State::HalfActivated(_)
-                | State::Dead => held == 0,
+                | State::Dead => held.is_empty(),
             };
         let Some(id) = self.state.component() else {
             return held_as_they_should;
@@ -146,12 +147,14 @@ impl Record {
     /// The entries and context ids kept for held CPUs.
     #[inline]
     fn resumes_are_well_formed(&self) -> bool {
-        let kept = if self.keeps_resumes() { self.held } else { 0 };
-        (0..MAX_CPUS).all(|cpu| {
-            if kept >> cpu & 1 == 1 {
-                self.board.is_good_entry(self.entry[cpu])
+        let keeps = self.keeps_resumes();
+        let kept = if keeps { self.held } else { CpuSet::default() };
+        let resumes = self.entry.iter().zip(&self.context);
+        (0..).zip(resumes).all(|(cpu, (&entry, &context))| {
+            if kept.has(cpu) {
+                self.board.is_good_entry(entry)
             } else {
-                self.entry[cpu] == 0 && self.context[cpu] == 0
+                entry == 0 && context == 0
             }
         })
     }

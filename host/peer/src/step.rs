@@ -1,6 +1,7 @@
 //! The rules: what each event answers and changes.
 
 use crate::answer::{status, Answer, Caller, Release};
+use crate::cpus::CpuSet;
 use crate::event::{
     has_code, Call, Event, Function, Image, Report, ACTIVATE_CODES, BY_RESET, PRIME_CODES,
 };
@@ -60,11 +61,10 @@ impl Record {
         if call.cpu >= self.board.cpus {
             return Err(Refusal::NoSuchCpu);
         }
-        let caller = 1 << call.cpu;
-        if self.on & caller == 0 {
+        if !self.on.has(call.cpu) {
             return Err(Refusal::CpuOff);
         }
-        if self.held & caller != 0 {
+        if self.held.has(call.cpu) {
             return Err(Refusal::CpuHeld);
         }
         let Some(function) = Function::from_x0(call.x0) else {
@@ -75,10 +75,10 @@ impl Record {
             Function::Features => Answer::returned(features(call.x1)),
             Function::GetInfo => self.get_info(call.x1),
             Function::GetInventory => self.get_inventory(call.x1),
-            Function::Prime => self.prime(caller, call.x1),
-            Function::Activate => self.activate(caller, call),
+            Function::Prime => self.prime(call.cpu, call.x1),
+            Function::Activate => self.activate(call),
             Function::Cancel => self.cancel(call.x1),
-            Function::CpuOff => self.cpu_off(caller),
+            Function::CpuOff => self.cpu_off(call.cpu),
             Function::CpuOn => self.cpu_on(call, entries, contexts),
         })
     }
@@ -124,11 +124,11 @@ impl Record {
             return Answer::returned(AUTH_ERROR);
         }
         self.state = State::Preparing(id);
-        self.held = caller;
+        self.held = CpuSet::only(caller);
         Answer::caller(Caller::PrimeStarted)
     }
 
-    fn activate(&mut self, caller: u64, call: &Call) -> Answer {
+    fn activate(&mut self, call: &Call) -> Answer {
         let (id, flags) = (call.x1, call.x2);
         let skip = flags == SKIP;
         let (own, fits) = match self.state {
@@ -150,7 +150,7 @@ impl Record {
         if let State::Alone(_) = self.state {
             return Answer::returned(BUSY);
         }
-        self.held |= caller;
+        self.held = self.held.with(call.cpu);
         if may_reset {
             self.entry[call.cpu as usize] = call.x3;
             self.context[call.cpu as usize] = call.x4;
@@ -177,7 +177,7 @@ impl Record {
             return Answer::returned(BUSY);
         }
         let release = match self.let_go(State::Idle) {
-            0 => Release::Nobody,
+            nobody if nobody.is_empty() => Release::Nobody,
             cpus => Release::Returned {
                 cpus,
                 x0: ACTIVATION_FAILED,
@@ -191,10 +191,11 @@ impl Record {
     }
 
     fn cpu_off(&mut self, caller: u64) -> Answer {
-        if self.is_frozen() || self.on == caller {
+        let rest = self.on.without(CpuSet::only(caller));
+        if self.is_frozen() || rest.is_empty() {
             return Answer::returned(PSCI_DENIED);
         }
-        self.on &= !caller;
+        self.on = rest;
         Answer::caller(Caller::Gone)
     }
 
@@ -206,19 +207,18 @@ impl Record {
         if !self.board.is_good_entry(entry) {
             return Answer::returned(PSCI_INVALID_ADDRESS);
         }
-        let cpu = 1 << target;
-        if self.on & cpu != 0 {
+        if self.on.has(target) {
             return Answer::returned(PSCI_ALREADY_ON);
         }
         if self.is_frozen() {
             return Answer::returned(PSCI_INTERNAL_FAILURE);
         }
-        self.on |= cpu;
+        self.on = self.on.with(target);
         entries[target as usize] = entry;
         contexts[target as usize] = context;
         Answer {
             caller: Caller::Returned([0; 4]),
-            release: Release::Resumed(cpu),
+            release: Release::Resumed(CpuSet::only(target)),
         }
     }
 
@@ -263,10 +263,7 @@ impl Record {
             self.informed = false;
         }
         if code == BY_RESET {
-            for cpu in members(self.held) {
-                entries[cpu] = self.entry[cpu];
-                contexts[cpu] = self.context[cpu];
-            }
+            self.hand_out_resumes(entries, contexts);
             let cpus = self.let_go(State::Idle);
             return Ok(Answer::release(Release::Resumed(cpus)));
         }
@@ -307,12 +304,21 @@ impl Record {
         Answer::release(Release::Returned { cpus, x0, x1 })
     }
 
+    /// Writes what was kept for the held CPUs at their places of the tables.
+    fn hand_out_resumes(&self, entries: &mut [u64], contexts: &mut [u64]) {
+        for cpu in self.held.members() {
+            let place = cpu as usize;
+            entries[place] = self.entry[place];
+            contexts[place] = self.context[place];
+        }
+    }
+
     /// Forgets the held CPUs with what was kept for them, and tells them.
-    fn let_go(&mut self, next: State) -> u64 {
+    fn let_go(&mut self, next: State) -> CpuSet {
         if self.keeps_resumes() {
-            for cpu in members(self.held) {
-                self.entry[cpu] = 0;
-                self.context[cpu] = 0;
+            for cpu in self.held.members() {
+                self.entry[cpu as usize] = 0;
+                self.context[cpu as usize] = 0;
             }
         }
         self.state = next;
@@ -326,14 +332,4 @@ fn features(number: u64) -> u64 {
     } else {
         NOT_SUPPORTED
     }
-}
-
-/// The CPUs of a set, lowest first.
-#[inline]
-fn members(mut set: u64) -> impl Iterator<Item = usize> {
-    std::iter::from_fn(move || {
-        let cpu = set.trailing_zeros();
-        set &= set.checked_sub(1)?;
-        Some(cpu as usize)
-    })
 }

@@ -1,113 +1,16 @@
-//! The two packed forms and the log's questions.
+//! Log records by their fields: written by the peer, read on both sides.
 
-mod common;
-
-use common::*;
+use common::generate::{ACTIVATE_CODES, PRIME_CODES};
+use common::pair::read_record;
 use peer::*;
+
+fn read(bytes: &[u8]) -> Result<LogRecord, Refusal> {
+    read_record(&"a record", bytes)
+}
 
 fn number<T: std::fmt::Debug>(result: Result<T, Refusal>) -> u64 {
     result.unwrap_err().number()
 }
-
-#[test]
-fn boards_round_trip() {
-    for components in 1..=32 {
-        for cpus in 1..=64 {
-            let board = board(components, cpus);
-            let bytes = described(&board);
-            assert_eq!(bytes.len() as u64, 18 + 21 * components);
-            assert_eq!(Board::read(&bytes), Ok(board));
-        }
-    }
-}
-
-#[test]
-fn board_bytes() {
-    let mut board = board(2, 4);
-    board.first = 0x0102_0304_0506_0708;
-    board.last = 0x1112_1314_1516_1718;
-    board.component[1].svn = 0xA1A2_A3A4;
-    let bytes = described(&board);
-    assert_eq!(bytes[2..10], [1, 2, 3, 4, 5, 6, 7, 8]);
-    assert_eq!(bytes[10..18], board.last.to_be_bytes());
-    assert_eq!(bytes[18..34], board.component[0].uuid);
-    assert_eq!(bytes[34], 0x80);
-    assert_eq!(bytes[55..], [0xC0, 0xA1, 0xA2, 0xA3, 0xA4]);
-}
-
-#[test]
-fn board_reading_refusals() {
-    let good = described(&board(3, 4));
-    for length in 0..good.len() {
-        assert_eq!(number(Board::read(&good[..length])), 20);
-    }
-    let mut bytes = good.clone();
-    bytes.push(0);
-    bytes[1] |= 1;
-    assert_eq!(number(Board::read(&bytes)), 21);
-    // Everything wrong at once, then put right in the order of refusal.
-    let mut bytes = good.clone();
-    bytes[2] = 0xFF;
-    let (flags, uuid) = (18 + 21 + 16, 18);
-    bytes[flags] |= 0x7F;
-    bytes.copy_within(uuid..uuid + 16, uuid + 42);
-    for bit in 0..5 {
-        bytes[flags] = bytes[flags] & 0xE0 | 1 << bit;
-        assert_eq!(number(Board::read(&bytes)), 22);
-        let mut head = good.clone();
-        head[1] |= 1 << bit;
-        assert_eq!(number(Board::read(&head)), 22);
-    }
-    bytes[flags] &= 0xE0;
-    assert_eq!(number(Board::read(&bytes)), 23);
-    bytes[2] = 0;
-    assert_eq!(number(Board::read(&bytes)), 24);
-    bytes[flags] &= !0x20;
-    assert_eq!(number(Board::read(&bytes)), 25);
-    bytes[uuid] ^= 1;
-    assert!(Board::read(&bytes).is_ok());
-}
-
-#[test]
-fn board_writing_refusals() {
-    let mut wrong = board(2, 4);
-    wrong.first = LAST + 1;
-    wrong.component[1].optional = true;
-    wrong.component[0].uuid = wrong.component[1].uuid;
-    let mut room = [7; 59];
-    for (components, cpus) in [(0, 4), (33, 4), (2, 0), (2, 65), (u64::MAX, u64::MAX)] {
-        let board = Board {
-            components,
-            cpus,
-            ..wrong.clone()
-        };
-        assert_eq!(number(board.write(&mut room)), 26);
-    }
-    assert_eq!(number(wrong.write(&mut room)), 23);
-    wrong.first = LAST;
-    assert_eq!(number(wrong.write(&mut room)), 24);
-    wrong.component[1].optional = false;
-    assert_eq!(number(wrong.write(&mut room)), 25);
-    wrong.component[0].uuid[0] ^= 1;
-    assert_eq!(number(wrong.write(&mut room)), 27);
-    assert_eq!(room, [7; 59]);
-    // Only within the counts.
-    wrong.component[2] = Component {
-        optional: true,
-        may_reset: true,
-        ..wrong.component[0]
-    };
-    let mut room = [7; 64];
-    assert_eq!(wrong.write(&mut room), Ok(60));
-    assert_eq!(room[60..], [7; 4]);
-    wrong.component[2] = Component::default();
-    assert_eq!(Board::read(&room[..60]), Ok(wrong));
-}
-
-/// The codes of prime reports.
-const PRIME_CODES: [u64; 6] = [0, 1, 3, 4, 6, 11];
-/// The codes of activate reports.
-const ACTIVATE_CODES: [u64; 10] = [0, 1, 2, 3, 4, 5, 6, 9, 11, 12];
 
 fn good_call(outcome: u64) -> LogRecord {
     let given = if outcome == 1 { u64::MAX } else { 0 };
@@ -155,10 +58,10 @@ fn log_records_round_trip() {
         let mut bytes = [7; 60];
         assert_eq!(record.write(&mut bytes), Ok(51));
         assert_eq!(bytes[51..], [7; 9]);
-        assert_eq!(LogRecord::read(&bytes), Ok(record));
-        assert_eq!(LogRecord::read(&bytes[..51]), Ok(record));
+        assert_eq!(read(&bytes), Ok(record));
+        assert_eq!(read(&bytes[..51]), Ok(record));
         for length in 0..51 {
-            assert_eq!(number(LogRecord::read(&bytes[..length])), 30);
+            assert_eq!(number(read(&bytes[..length])), 30);
             let mut short = vec![7; length];
             assert_eq!(number(record.write(&mut short)), 34);
             assert!(short.iter().all(|&byte| byte == 7));
@@ -235,7 +138,7 @@ fn check_writing(record: LogRecord) {
     match refusal(&record) {
         None => {
             assert_eq!(record.write(&mut bytes), Ok(51));
-            assert_eq!(LogRecord::read(&bytes), Ok(record));
+            assert_eq!(read(&bytes), Ok(record));
         }
         Some(expected) => {
             assert_eq!(number(record.write(&mut bytes)), expected);
@@ -281,44 +184,13 @@ fn log_reading_refusals() {
                     None if reserved != 0 => Some(31),
                     other => other,
                 };
-                let read = LogRecord::read(&bytes);
                 match expected {
-                    None => assert_eq!(read, Ok(record)),
-                    Some(expected) => assert_eq!(number(read), expected),
+                    None => assert_eq!(read(&bytes), Ok(record)),
+                    Some(expected) => assert_eq!(number(read(&bytes)), expected),
                 }
             }
         }
     }
-}
-
-#[test]
-fn flaws_have_places() {
-    let bench = Bench::in_state(State::Ready(PLAIN));
-    let records = bench.log.len() / 51;
-    let described = described(&bench.record.board);
-    let flaw = |log: &[u8], place| {
-        let flaw = prepared_at(log, place).unwrap_err();
-        let starts = starts_at(&described, log, place, &Call::default());
-        assert_eq!(starts, Err(flaw));
-        assert_eq!(powered_at(&described, log, place), Err(flaw));
-        assert_eq!(held_at(&described, log, place), Err(flaw));
-        (flaw.refusal.number(), flaw.place)
-    };
-    assert_eq!(flaw(&bench.log, records + 1), (33, 0));
-    assert_eq!(flaw(&bench.log, usize::MAX), (33, 0));
-    assert_eq!(flaw(&bench.log[1..], 0), (33, 0));
-    let mut bad = bench.log.clone();
-    bad[51 * 3 + 2] |= 1;
-    bad[51 * 4] = 0;
-    for place in 0..=records {
-        assert_eq!(flaw(&bad, place), (31, 3));
-    }
-    assert_eq!(flaw(&bad, records + 1), (33, 0));
-    bad[51 * 2] = 0xE0;
-    assert_eq!(flaw(&bad, 0), (32, 2));
-    // The board's refusal comes first.
-    let flaw = starts_at(&described[1..], &bad, 99, &Call::default()).unwrap_err();
-    assert_eq!((flaw.refusal.number(), flaw.place), (20, 0));
 }
 
 #[test]
@@ -346,27 +218,4 @@ fn deciding_records() {
         let postpones = record.kind == ACTIVATE && record.code == 2;
         assert_eq!(record.is_postponement(), postpones);
     }
-}
-
-#[test]
-fn prepared_through_a_postponement() {
-    let bench = Bench::in_state(State::Together(OPTIONAL)).all(&[activated(OPTIONAL, 2)]);
-    let place = bench.log.len() / 51;
-    assert_eq!(
-        prepared_at(&bench.log, place),
-        Ok(Prepared {
-            component: Some(OPTIONAL),
-            looked: 5
-        })
-    );
-    let log = Log::read(&bench.log).unwrap();
-    assert_eq!(log.before(place - 4).unwrap().prepared().looked, 1);
-    let bench = bench.all(&[cancel(0, OPTIONAL)]);
-    assert_eq!(
-        prepared_at(&bench.log, place + 1),
-        Ok(Prepared {
-            component: None,
-            looked: 1
-        })
-    );
 }

@@ -5,9 +5,7 @@ use crate::flat::{Cpus, MOST_CPUS};
 impl Cpus {
     /// The set of these CPUs; a number that there is no room for is in no set.
     pub fn of(cpus: &[u64]) -> Cpus {
-        Cpus {
-            bits: cpus.iter().fold(0, |bits, &cpu| bits | bit(cpu)),
-        }
+        cpus.iter().copied().collect()
     }
 
     /// Whether a CPU is in the set.
@@ -26,8 +24,16 @@ impl Cpus {
     }
 
     /// The CPUs of the set, upwards.
-    pub fn iter(self) -> impl Iterator<Item = u64> {
+    pub fn iter(self) -> impl Iterator<Item = u64> + Clone {
         (0..MOST_CPUS as u64).filter(move |&cpu| self.has(cpu))
+    }
+}
+
+impl FromIterator<u64> for Cpus {
+    fn from_iter<I: IntoIterator<Item = u64>>(cpus: I) -> Cpus {
+        Cpus {
+            bits: cpus.into_iter().fold(0, |bits, cpu| bits | bit(cpu)),
+        }
     }
 }
 

@@ -1,12 +1,48 @@
 //! What crosses to the library: numbers, arrays of numbers, and structs of these, as `lfa.h` has them.
 //!
 //! Every function here is safe: references are all that the library asks for, and whatever the numbers are, it gives a stated
-//! answer.
+//! answer. Before the first call each of them looks whether the library is the one that these structs are for ([`Abi`]).
+
+use core::mem::size_of;
+use core::sync::atomic::{AtomicBool, Ordering};
 
 /// Components that a board has at most.
 pub const MOST_COMPONENTS: usize = 32;
 /// CPUs that a board has at most.
 pub const MOST_CPUS: usize = 64;
+
+/// Which library it is: a host that was built for another must not call it. This struct is the same for all of them.
+#[repr(C)]
+#[derive(Clone, Copy, Debug, Default, PartialEq, Eq)]
+pub struct Abi {
+    /// The ABI number: every other layout has another.
+    pub number: u64,
+    /// Bytes of a [`Record`].
+    pub record: u64,
+    /// Bytes of an [`Event`].
+    pub event: u64,
+    /// Bytes of an [`Answer`].
+    pub answer: u64,
+}
+
+impl Abi {
+    /// The library that this wrapper is for.
+    pub const OWN: Abi = Abi {
+        number: 1,
+        record: size_of::<Record>() as u64,
+        event: size_of::<Event>() as u64,
+        answer: size_of::<Answer>() as u64,
+    };
+
+    /// Panics unless this is the library that the wrapper is for.
+    pub fn check(self) {
+        assert!(
+            self == Abi::OWN,
+            "the linked library is another than this wrapper is for: {self:?} and not {:?}",
+            Abi::OWN
+        );
+    }
+}
 
 /// A set of CPUs.
 #[repr(C)]
@@ -178,7 +214,7 @@ pub struct Fresh {
     pub rec: Record,
 }
 
-/// The answer of [`log`].
+/// The answer of [`log`] and of [`describe`].
 #[repr(C)]
 #[derive(Clone, Copy, Debug, Default, PartialEq, Eq)]
 pub struct Written {
@@ -186,6 +222,44 @@ pub struct Written {
     pub refusal: u64,
     /// How many bytes were written; 0 if refused.
     pub bytes: usize,
+}
+
+/// A record of the log.
+#[repr(C)]
+#[derive(Clone, Copy, Debug, Default, PartialEq, Eq)]
+pub struct LogRecord {
+    /// 1 a call, 2 a prime report, 3 an activate report, 4 an image.
+    pub kind: u64,
+    /// The CPU of a call, else 0.
+    pub cpu: u64,
+    /// The code of a report, else 0.
+    pub code: u64,
+    /// 1 returned, 2 held, 3 prime started, 4 activation started, 5 gone, 6 released, 7 noted.
+    pub outcome: u64,
+    /// X0 of a call, else 0.
+    pub w1: u64,
+    /// X1 of a call, else the component.
+    pub w2: u64,
+    /// X2 of a call, the version of an image, else 0.
+    pub w3: u64,
+    /// X3 of a call, else 0.
+    pub w4: u64,
+    /// X4 of a call, else 0.
+    pub w5: u64,
+    /// The X0 given for outcomes 1 and 6, else 0.
+    pub w6: u64,
+}
+
+/// The answer of [`read_record`].
+#[repr(C)]
+#[derive(Clone, Copy, Debug, Default, PartialEq, Eq)]
+pub struct Read {
+    /// 0 or the number of the refusal.
+    pub refusal: u64,
+    /// How many bytes were read; 0 if refused.
+    pub bytes: usize,
+    /// The record; all 0 if refused.
+    pub record: LogRecord,
 }
 
 /// A component, or none.
@@ -225,9 +299,11 @@ pub struct Started {
 }
 
 mod linked {
-    use super::{Answer, Call, Event, Fresh, Prepared, Record, Started, Written};
+    use super::{Abi, Answer, Board, Call, Event, Fresh, Prepared, Read, Record, Started, Written};
 
     extern "C" {
+        pub fn lfa_abi() -> Abi;
+        pub fn lfa_describe(buf: *mut u8, buf_length: usize, board: Board) -> Written;
         pub fn lfa_fresh(board: *const u8, board_length: usize) -> Fresh;
         pub fn lfa_step(
             rec: *mut Record,
@@ -238,6 +314,7 @@ mod linked {
             contexts_length: usize,
         ) -> Answer;
         pub fn lfa_log(buf: *mut u8, buf_length: usize, e: Event, a: Answer) -> Written;
+        pub fn lfa_read_record(log: *const u8, log_length: usize) -> Read;
         pub fn lfa_prepared(log: *const u8, log_length: usize, place: usize) -> Prepared;
         pub fn lfa_starts(
             board: *const u8,
@@ -250,8 +327,33 @@ mod linked {
     }
 }
 
+/// Which library is linked.
+pub fn abi() -> Abi {
+    // SAFETY: it takes nothing, and what it gives is the same struct in every library.
+    unsafe { linked::lfa_abi() }
+}
+
+/// Panics, before anything else crosses, unless the linked library is the one that this wrapper is for; asks it once.
+fn ensure_own_library() {
+    static ASKED: AtomicBool = AtomicBool::new(false);
+    if !ASKED.load(Ordering::Relaxed) {
+        abi().check();
+        ASKED.store(true, Ordering::Relaxed);
+    }
+}
+
+/// Writes a board's description from its parts at the start of the buffer; bytes not written stay.
+///
+/// Refused with 22 for a flag within the count that is neither 0 nor 1, then 26, 23, 24, 25, 27.
+pub fn describe(buf: &mut [u8], board: Board) -> Written {
+    ensure_own_library();
+    // SAFETY: the slice is valid for its length and borrowed mutably.
+    unsafe { linked::lfa_describe(buf.as_mut_ptr(), buf.len(), board) }
+}
+
 /// The record of a board that was just switched on, from its packed description.
 pub fn fresh(board: &[u8]) -> Fresh {
+    ensure_own_library();
     // SAFETY: the slice is valid for its length, and the function only reads it.
     unsafe { linked::lfa_fresh(board.as_ptr(), board.len()) }
 }
@@ -261,6 +363,7 @@ pub fn fresh(board: &[u8]) -> Fresh {
 /// Refused with 9 for a record that is not well formed, then 1 for a short table, then 32 for a kind that is none of the four,
 /// else 2 to 8.
 pub fn step(rec: &mut Record, e: Event, entries: &mut [u64], contexts: &mut [u64]) -> Answer {
+    ensure_own_library();
     // SAFETY: the three are valid for their lengths and apart, since each is borrowed mutably.
     unsafe {
         linked::lfa_step(
@@ -276,18 +379,28 @@ pub fn step(rec: &mut Record, e: Event, entries: &mut [u64], contexts: &mut [u64
 
 /// Writes the log record of an accepted event at the start of the buffer; bytes not written stay.
 pub fn log(buf: &mut [u8], e: Event, a: Answer) -> Written {
+    ensure_own_library();
     // SAFETY: the slice is valid for its length and borrowed mutably.
     unsafe { linked::lfa_log(buf.as_mut_ptr(), buf.len(), e, a) }
 }
 
+/// The log record that the bytes open with.
+pub fn read_record(log: &[u8]) -> Read {
+    ensure_own_library();
+    // SAFETY: the slice is valid for its length, and the function only reads it.
+    unsafe { linked::lfa_read_record(log.as_ptr(), log.len()) }
+}
+
 /// Which component is prepared at a place of a log.
 pub fn prepared(log: &[u8], place: usize) -> Prepared {
+    ensure_own_library();
     // SAFETY: the slice is valid for its length, and the function only reads it.
     unsafe { linked::lfa_prepared(log.as_ptr(), log.len(), place) }
 }
 
 /// The component whose rendezvous activation starts at a call made at a place of a log.
 pub fn starts(board: &[u8], log: &[u8], place: usize, call: Call) -> Started {
+    ensure_own_library();
     // SAFETY: both slices are valid for their lengths, and the function only reads them.
     unsafe {
         linked::lfa_starts(

@@ -1,19 +1,22 @@
 //! The live firmware activation agent for a host in Rust: a safe layer over the proved library, which `lfa.h` says in C.
 //!
-//! A host keeps a [`Record`] of its board and tells it every [`Event`]: a call from a CPU, the end of a job, an image that
-//! arrived. The [`Answer`] says what becomes of the caller and who else goes on. Each accepted event can be logged
-//! ([`write_log`]), and the log alone tells what is prepared ([`prepared_at`]) and whether a call starts a rendezvous
-//! activation ([`starts_at`]). A [`Refusal`] changes nothing.
+//! A host keeps a [`Record`] of its board, whose description it has packed or writes from its parts ([`describe`]), and tells it
+//! every [`Event`]: a call from a CPU, the end of a job, an image that arrived. The [`Answer`] says what becomes of the caller
+//! and who else goes on. Each accepted event can be logged ([`write_log`]) and read back ([`read_record`]), and the log alone
+//! tells what is prepared ([`prepared_at`]) and whether a call starts a rendezvous activation ([`starts_at`]). A [`Refusal`]
+//! changes nothing.
 //!
-//! No input makes a function here panic. What the library asks of a host, the types see to.
+//! No input makes a function here panic; a linked library that this wrapper is not for does, before anything crosses to it.
+//! What the library asks of a host, the types see to.
 //!
 //! ```
-//! use lfa::{function, write_log, Call, Caller, Event, Image, Record, State};
+//! use lfa::{describe, function, write_log, Board, Call, Caller, Event, Image, Record, State};
 //!
 //! // One capable component, one CPU, any address.
+//! let mut parts = Board { components: 1, cpus: 1, last: u64::MAX, ..Board::default() };
+//! parts.component[0].capable = 1;
 //! let mut board = [0; 39];
-//! board[10..18].fill(0xFF);
-//! board[34] = 0x80;
+//! assert_eq!(describe(&mut board, &parts)?, 39);
 //!
 //! let mut record = Record::fresh(&board)?;
 //! let (mut entries, mut contexts) = ([0; 1], [0; 1]);
@@ -46,7 +49,9 @@ mod refusal;
 
 pub use answer::{status, Answer, Caller, Registers, Release};
 pub use event::{code, function, Call, Event, Image, Report};
-pub use flat::{Board, Component, Cpus, Freed, MOST_COMPONENTS, MOST_CPUS};
-pub use log::{prepared_at, starts_at, write_log, Flaw, Prepared, MOST_RECORDS, RECORD_BYTES};
-pub use record::{Record, State};
+pub use flat::{Board, Component, Cpus, Freed, LogRecord, MOST_COMPONENTS, MOST_CPUS};
+pub use log::{
+    prepared_at, read_record, starts_at, write_log, Flaw, Prepared, MOST_RECORDS, RECORD_BYTES,
+};
+pub use record::{describe, Record, State};
 pub use refusal::Refusal;

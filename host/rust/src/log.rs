@@ -5,7 +5,7 @@ use core::fmt;
 
 use crate::answer::Answer;
 use crate::event::{Call, Event};
-use crate::flat::{self, Found};
+use crate::flat::{self, Found, LogRecord};
 use crate::refusal::Refusal;
 
 /// Bytes of a log record.
@@ -57,6 +57,13 @@ pub fn write_log(buf: &mut [u8], event: &Event, answer: &Answer) -> Result<usize
     let written = flat::log(buf, (*event).into(), (*answer).into());
     Refusal::check(written.refusal)?;
     Ok(written.bytes)
+}
+
+/// The record that the bytes open with, and the unread rest.
+pub fn read_record(log: &[u8]) -> Result<(LogRecord, &[u8]), Refusal> {
+    let read = flat::read_record(log);
+    Refusal::check(read.refusal)?;
+    Ok((read.record, log.get(read.bytes..).unwrap_or_default()))
 }
 
 /// Which component is prepared at a place of a log: after that many of its records.

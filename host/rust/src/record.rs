@@ -46,6 +46,15 @@ impl State {
     }
 }
 
+/// Writes a board's packed description from its parts at the start of the buffer, and gives the number of bytes written.
+///
+/// Bytes not written stay. What stands past the counts is not looked at.
+pub fn describe(buf: &mut [u8], board: &Board) -> Result<usize, Refusal> {
+    let written = flat::describe(buf, *board);
+    Refusal::check(written.refusal)?;
+    Ok(written.bytes)
+}
+
 /// A board's record. It is well formed: there is no way to make another.
 #[derive(Clone, Debug, PartialEq, Eq)]
 pub struct Record(flat::Record);

@@ -30,7 +30,7 @@ impl Refusal {
     pub const BOARD_TOO_SHORT: Refusal = Refusal(20);
     /// Board: too long.
     pub const BOARD_TOO_LONG: Refusal = Refusal(21);
-    /// Board: reserved bit set.
+    /// Board: reserved bit set; to write: a flag that is neither 0 nor 1.
     pub const RESERVED_BIT: Refusal = Refusal(22);
     /// Board: first > last.
     pub const RANGE: Refusal = Refusal(23);
@@ -38,6 +38,12 @@ impl Refusal {
     pub const BOTH_FLAGS: Refusal = Refusal(24);
     /// Board: UUID twice.
     pub const UUID_TWICE: Refusal = Refusal(25);
+    /// Board to write: not 1 to 32 components, or not 1 to 64 CPUs.
+    pub const COUNT: Refusal = Refusal(26);
+    /// Board to write: the buffer is too short.
+    pub const NO_BOARD_ROOM: Refusal = Refusal(27);
+    /// Log: fewer bytes than a record has.
+    pub const LOG_TOO_SHORT: Refusal = Refusal(30);
     /// Log: unused field not 0, or a number too large for its field.
     pub const FIELD: Refusal = Refusal(31);
     /// Log: kind, outcome or code unknown. Event: kind unknown, which an [`Event`](crate::Event) never is.
@@ -74,10 +80,13 @@ impl Refusal {
             Refusal::NOT_WELL_FORMED => "record not well formed",
             Refusal::BOARD_TOO_SHORT => "board: too short",
             Refusal::BOARD_TOO_LONG => "board: too long",
-            Refusal::RESERVED_BIT => "board: reserved bit set",
+            Refusal::RESERVED_BIT => "board: reserved bit set, or a flag neither 0 nor 1",
             Refusal::RANGE => "board: first > last",
             Refusal::BOTH_FLAGS => "board: optional with may_reset",
             Refusal::UUID_TWICE => "board: UUID twice",
+            Refusal::COUNT => "board to write: not 1 to 32 components, or not 1 to 64 CPUs",
+            Refusal::NO_BOARD_ROOM => "board to write: the buffer is too short",
+            Refusal::LOG_TOO_SHORT => "log: fewer bytes than a record has",
             Refusal::FIELD => "log: unused field not 0, or a number too large for its field",
             Refusal::UNKNOWN => "kind, outcome or code unknown",
             Refusal::LOG => "log: part of a record, over 1,024 of them, or a place past the end",

@@ -1,8 +1,10 @@
 //! Every clause of a well-formed record, each with what breaks it.
 
-use crate::dice::Dice;
+use common::convert::{flat_cpus, peer_cpus};
+use common::dice::Dice;
 use lfa::flat;
-use peer::{MAX_COMPONENTS, MAX_CPUS};
+use peer::{CpuSet, MAX_COMPONENTS, MAX_CPUS};
+use std::ops::Range;
 
 /// Breaks a record so that it is not well formed, where it can.
 pub type Breaker = fn(&mut Dice, &mut flat::Record) -> Option<()>;
@@ -31,17 +33,17 @@ pub const CLAUSES: [(&str, Breaker); 45] = [
         Some(())
     }),
     ("version where nothing is pending", |dice, r| {
-        let place = dice.member(not_pending(r) & existing(r))?;
+        let place = dice.member(existing(r, 0))?;
         r.version[place as usize] = nonzero(dice) as u32 | 1;
         Some(())
     }),
     ("entry of a CPU that is not held", |dice, r| {
-        let cpu = dice.member(cpus(r) & !r.held.bits)?;
+        let cpu = dice.member(cpus(r).without(held(r)).members())?;
         r.entry[cpu as usize] = good_entry(r)?.max(4);
         Some(())
     }),
     ("context of a CPU that is not held", |dice, r| {
-        let cpu = dice.member(cpus(r) & !r.held.bits)?;
+        let cpu = dice.member(cpus(r).without(held(r)).members())?;
         r.context[cpu as usize] = nonzero(dice);
         Some(())
     }),
@@ -56,12 +58,12 @@ pub const CLAUSES: [(&str, Breaker); 45] = [
         Some(())
     }),
     ("entry past the CPUs", |dice, r| {
-        let cpu = dice.member(!cpus(r))?;
+        let cpu = dice.member(past_cpus(r))?;
         r.entry[cpu as usize] = nonzero(dice);
         Some(())
     }),
     ("context past the CPUs", |dice, r| {
-        let cpu = dice.member(!cpus(r))?;
+        let cpu = dice.member(past_cpus(r))?;
         r.context[cpu as usize] = nonzero(dice);
         Some(())
     }),
@@ -105,22 +107,22 @@ pub const CLAUSES: [(&str, Breaker); 45] = [
     }),
     ("UUID twice", |dice, r| {
         let one = dice.below(r.board.components) as usize;
-        let others = existing(r) & !(1 << one);
+        let others = (0..r.board.components).filter(|&other| other != one as u64);
         let other = dice.member(others)? as usize;
         r.board.component[one].uuid = r.board.component[other].uuid;
         Some(())
     }),
     ("CPU on that does not exist", |dice, r| {
-        r.on.bits |= 1 << dice.member(!cpus(r))?;
+        r.on = flat_cpus(on(r).with(dice.member(past_cpus(r))?));
         Some(())
     }),
     ("no CPU on", |_, r| {
-        r.on.bits = 0;
-        hold(r, 0);
+        r.on = flat::Cpus::default();
+        hold(r, CpuSet::default());
         Some(())
     }),
     ("pending without capable", |dice, r| {
-        let place = dice.member(!not_pending(r) & existing(r))?;
+        let place = dice.member(existing(r, 1))?;
         r.board.component[place as usize].capable = 0;
         Some(())
     }),
@@ -149,45 +151,45 @@ pub const CLAUSES: [(&str, Breaker); 45] = [
         Some(())
     }),
     ("CPU held in a state that holds none", |dice, r| {
-        let cpu = dice.member(r.on.bits)?;
+        let cpu = dice.member(on(r).members())?;
         let none = matches!(r.state, 0 | 2 | 3 | 7 | 8);
-        none.then(|| hold(r, 1 << cpu))
+        none.then(|| hold(r, CpuSet::only(cpu)))
     }),
     ("no CPU held in preparing", |_, r| {
-        (r.state == 1).then(|| hold(r, 0))
+        (r.state == 1).then(|| hold(r, CpuSet::default()))
     }),
     ("no CPU held in gathering", |_, r| {
-        (r.state == 4).then(|| hold(r, 0))
+        (r.state == 4).then(|| hold(r, CpuSet::default()))
     }),
     ("no CPU held in together", |_, r| {
-        (r.state == 5).then(|| hold(r, 0))
+        (r.state == 5).then(|| hold(r, CpuSet::default()))
     }),
     ("no CPU held in alone", |_, r| {
-        (r.state == 6).then(|| hold(r, 0))
+        (r.state == 6).then(|| hold(r, CpuSet::default()))
     }),
     ("two CPUs held in preparing", |dice, r| {
-        let other = dice.member(r.on.bits & !r.held.bits)?;
-        (r.state == 1).then(|| hold(r, r.held.bits | 1 << other))
+        let other = dice.member(on(r).without(held(r)).members())?;
+        (r.state == 1).then(|| hold(r, held(r).with(other)))
     }),
     ("two CPUs held in alone", |dice, r| {
-        let other = dice.member(r.on.bits & !r.held.bits)?;
-        (r.state == 6).then(|| hold(r, r.held.bits | 1 << other))
+        let other = dice.member(on(r).without(held(r)).members())?;
+        (r.state == 6).then(|| hold(r, held(r).with(other)))
     }),
     ("all CPUs held in gathering", |_, r| {
-        (r.state == 4).then(|| hold(r, r.on.bits))
+        (r.state == 4).then(|| hold(r, on(r)))
     }),
     ("not all CPUs held in together", |dice, r| {
-        let free = dice.member(r.on.bits)?;
-        (r.state == 5).then(|| hold(r, r.held.bits & !(1 << free)))
+        let free = dice.member(on(r).members())?;
+        (r.state == 5).then(|| hold(r, held(r).without(CpuSet::only(free))))
     }),
     ("held CPU is off", |dice, r| {
-        let off = dice.member(cpus(r) & !r.on.bits)?;
+        let off = dice.member(cpus(r).without(on(r)).members())?;
         let held = match r.state {
-            1 | 6 => 0,
-            4 | 5 => r.held.bits,
+            1 | 6 => CpuSet::default(),
+            4 | 5 => held(r),
             _ => return None,
         };
-        hold(r, held | 1 << off);
+        hold(r, held.with(off));
         Some(())
     }),
     ("alone without optional", |_, r| {
@@ -199,7 +201,7 @@ pub const CLAUSES: [(&str, Breaker); 45] = [
         (r.state == 7).then_some(())
     }),
     ("entry of a held CPU is bad", |dice, r| {
-        let cpu = dice.member(r.held.bits)? as usize;
+        let cpu = dice.member(held(r).members())? as usize;
         r.entry[cpu] = bad_entry(dice, r);
         keeps_entries(r).then_some(())
     }),
@@ -247,21 +249,26 @@ fn nonzero(dice: &mut Dice) -> u64 {
 }
 
 /// The CPUs that the board has.
-fn cpus(r: &flat::Record) -> u64 {
-    u64::MAX >> (64 - r.board.cpus)
+fn cpus(r: &flat::Record) -> CpuSet {
+    CpuSet::below(r.board.cpus)
 }
 
-/// The components that the board has, as a set.
-fn existing(r: &flat::Record) -> u64 {
-    u64::MAX >> (64 - r.board.components)
+/// The CPUs that the board has not.
+fn past_cpus(r: &flat::Record) -> Range<u64> {
+    r.board.cpus..MAX_CPUS as u64
 }
 
-fn not_pending(r: &flat::Record) -> u64 {
-    let mut set = u64::MAX;
-    for (place, &pending) in r.pending.iter().enumerate() {
-        set &= !(u64::from(pending) << place);
-    }
-    set
+fn on(r: &flat::Record) -> CpuSet {
+    peer_cpus(r.on)
+}
+
+fn held(r: &flat::Record) -> CpuSet {
+    peer_cpus(r.held)
+}
+
+/// The components that the board has with this number as their pending flag.
+fn existing(r: &flat::Record, pending: u8) -> impl Iterator<Item = u64> + Clone + '_ {
+    (0..r.board.components).filter(move |&place| r.pending[place as usize] == pending)
 }
 
 pub fn any_component<'r>(dice: &mut Dice, r: &'r mut flat::Record) -> &'r mut flat::Component {
@@ -278,8 +285,7 @@ pub fn dice_flag<'c>(dice: &mut Dice, component: &'c mut flat::Component) -> &'c
 
 /// A place past the components, if there is one.
 fn past_place(dice: &mut Dice, r: &flat::Record) -> Option<usize> {
-    let all = u64::from(u32::MAX);
-    let place = dice.member(all & !existing(r))?;
+    let place = dice.member(r.board.components..MAX_COMPONENTS as u64)?;
     Some(place as usize)
 }
 
@@ -300,7 +306,7 @@ pub fn keeps_entries(r: &flat::Record) -> bool {
 }
 
 fn held_without_entry(dice: &mut Dice, r: &flat::Record) -> Option<usize> {
-    let cpu = dice.member(r.held.bits)?;
+    let cpu = dice.member(held(r).members())?;
     (!keeps_entries(r)).then_some(cpu as usize)
 }
 
@@ -326,12 +332,12 @@ fn bad_entry(dice: &mut Dice, r: &flat::Record) -> u64 {
 }
 
 /// Sets who is held, with nothing else wrong: entries are kept just for them.
-fn hold(r: &mut flat::Record, held: u64) {
-    r.held.bits = held;
+fn hold(r: &mut flat::Record, held: CpuSet) {
+    r.held = flat_cpus(held);
     let entry = good_entry(r).unwrap_or(0);
     let keeps = keeps_entries(r);
     for cpu in 0..MAX_CPUS {
-        if keeps && held >> cpu & 1 == 1 {
+        if keeps && held.has(cpu as u64) {
             r.entry[cpu] = entry;
         } else {
             r.entry[cpu] = 0;

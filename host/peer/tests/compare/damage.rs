@@ -2,12 +2,12 @@
 //! random damage.
 
 use crate::clauses::{any_component, dice_flag, good_entry, keeps_entries, CLAUSES};
-use crate::convert::*;
-use crate::dice::Dice;
-use crate::generate::{self, entry, junk_event, Mood};
-use crate::pair::{flat_form, refused_step, Pair, Tables};
 use crate::tally::Tally;
 use crate::walks::Walk;
+use common::convert::*;
+use common::dice::Dice;
+use common::generate::{self, entry, junk_event, Mood};
+use common::pair::{flat_form, refused_step, Pair, Tables};
 use lfa::flat;
 use peer::*;
 use std::collections::BTreeMap;
@@ -67,10 +67,7 @@ fn compare_known(dice: &mut Dice, damaged: &flat::Record, event: &Event, tables:
         peer,
     };
     let (answer, _) = pair.step(dice, event, tables);
-    match answer {
-        Ok(_) => 0,
-        Err(refusal) => refusal.number(),
-    }
+    refusal_of(&answer)
 }
 
 #[test]
@@ -191,7 +188,7 @@ fn entries_at_the_limits() {
         let board = peer_record(&sample.record).expect("a good record").board;
         for _ in 0..200 {
             let mut damaged = sample.record;
-            let cpu = dice.member(damaged.held.bits).expect("one is held");
+            let cpu = dice.member(damaged.held.iter()).expect("one is held");
             damaged.entry[cpu as usize] = entry(&mut dice, &board);
             damaged.context[cpu as usize] = dice.word();
             let tables = Tables::long(&mut dice, board.cpus);

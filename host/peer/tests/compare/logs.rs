@@ -1,13 +1,13 @@
 //! Logs of walks, damaged logs and logs that no agent writes, with the
 //! questions at many places; and the writer on random answers.
 
-use crate::convert::*;
-use crate::described::{board, described};
-use crate::dice::Dice;
-use crate::generate::{entry, id, junk_event, noise, ACTIVATE_CODES, FUNCTIONS, PRIME_CODES};
-use crate::pair::{ask, ask_prepared, ask_starts, flat_form, log, question};
 use crate::tally::Tally;
 use crate::walks::Walk;
+use common::boards::{any, described};
+use common::convert::*;
+use common::dice::Dice;
+use common::generate::{entry, id, junk_event, noise, ACTIVATE_CODES, FUNCTIONS, PRIME_CODES};
+use common::pair::{ask, ask_prepared, ask_starts, flat_form, log, question, read_record};
 use lfa::flat;
 use peer::*;
 use std::collections::BTreeMap;
@@ -106,11 +106,8 @@ fn damaged_logs() {
                 damage(&mut dice, &mut log);
             }
             ask_somewhere(&mut dice, &walk.pair.peer, &walk.board, &log);
-            let refusal = match prepared_at(&log, 0) {
-                Ok(_) => 0,
-                Err(flaw) => flaw.refusal.number(),
-            };
-            *refusals.entry(refusal).or_default() += 1;
+            let read = prepared_at(&log, 0).map_err(|flaw| flaw.refusal);
+            *refusals.entry(refusal_of(&read)).or_default() += 1;
         }
     }
     println!("refusals of damaged logs: {refusals:?}");
@@ -138,7 +135,7 @@ fn every_bit_of_a_log() {
 fn random_logs() {
     let mut dice = Dice::new(12);
     for _ in 0..3000 {
-        let board = board(&mut dice);
+        let board = any(&mut dice);
         let described = described(&board);
         let record = Record::fresh(board);
         let mut log = vec![0; RECORD_BYTES * dice.place(5)];
@@ -273,7 +270,7 @@ fn logs_that_no_agent_writes() {
     let mut started = 0;
     let mut stopped = 0;
     for _ in 0..2000 {
-        let mut board = board(&mut dice);
+        let mut board = any(&mut dice);
         if !dice.one_in(8) {
             board.cpus = board.cpus.min(3);
         }
@@ -360,8 +357,9 @@ fn resets_logged_with_an_x0() {
         });
         let x0 = 1 << dice.below(64);
         let x0 = dice.one_of(&[0, x0, status(12)]);
-        let returned = Release::Returned { cpus: 1, x0, x1: 0 };
-        let release = dice.one_of(&[Release::Nobody, returned, Release::Resumed(1)]);
+        let cpus = CpuSet::only(0);
+        let returned = Release::Returned { cpus, x0, x1: 0 };
+        let release = dice.one_of(&[Release::Nobody, returned, Release::Resumed(cpus)]);
         let answer = Answer {
             caller: Caller::Nothing,
             release,
@@ -437,17 +435,56 @@ fn any_event(dice: &mut Dice, record: &Record) -> flat::Event {
 #[test]
 fn random_answers_logged() {
     let mut dice = Dice::new(16);
-    let record = Record::fresh(board(&mut dice));
+    let record = Record::fresh(any(&mut dice));
     let mut written = 0;
     for _ in 0..200_000 {
         dice.next_step();
         let (event, answer) = (any_event(&mut dice, &record), any_answer(&mut dice));
-        let expected = match (peer_event(&event), peer_answer(&answer)) {
-            (Some(event), Some(answer)) => Some(logged(&event, &answer)),
-            _ => None,
-        };
+        let expected = peer_logged(&event, &answer);
         written += u64::from(log(&mut dice, event, answer, expected).is_some());
     }
     println!("random answers written: {written}");
     assert!(written > 20_000, "{dice}: {written}");
+}
+
+/// Records read one by one: of walks, damaged, cut short and random.
+#[test]
+fn records_read() {
+    let mut dice = Dice::new(22);
+    let mut refusals = BTreeMap::<u64, u64>::new();
+    for _ in 0..400 {
+        let records = 1 + dice.place(25);
+        let mut log = walk(&mut dice, records).log;
+        for round in 0..40 {
+            if round % 4 == 3 {
+                damage(&mut dice, &mut log);
+            }
+            let start = match dice.below(8) {
+                0 => dice.place(log.len() + 1),
+                _ => RECORD_BYTES * dice.place(log.len() / RECORD_BYTES + 1),
+            };
+            dice.next_step();
+            let read = read_record(&dice, &log[start..]);
+            *refusals.entry(refusal_of(&read)).or_default() += 1;
+        }
+    }
+    println!("refusals of records read: {refusals:?}");
+    let kinds: Vec<u64> = refusals.into_keys().collect();
+    assert_eq!(kinds, [0, 30, 31, 32], "{dice}");
+}
+
+/// Every bit of a record, flipped, and random bytes.
+#[test]
+fn every_bit_of_a_record() {
+    let mut dice = Dice::new(23);
+    let walk = full_walk(&mut dice, 40);
+    for record in walk.log.chunks(RECORD_BYTES) {
+        for bit in BITS {
+            let mut bytes = record.to_vec();
+            bytes[bit / 8] ^= 1 << (bit % 8);
+            let _ = read_record(&dice, &bytes);
+            dice.fill(&mut bytes[bit / 8..]);
+            let _ = read_record(&dice, &bytes);
+        }
+    }
 }

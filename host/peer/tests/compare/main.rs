@@ -6,12 +6,8 @@
 
 mod boards;
 mod clauses;
-mod convert;
 mod damage;
-mod described;
-mod dice;
-mod generate;
 mod logs;
-mod pair;
+mod places;
 mod tally;
 mod walks;

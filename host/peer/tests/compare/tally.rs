@@ -1,7 +1,7 @@
 //! What a run came by, and that nothing was left out.
 
-use crate::convert::state_number;
-use crate::generate::{ACTIVATE_CODES, FUNCTIONS, PRIME_CODES};
+use common::convert::state_number;
+use common::generate::{ACTIVATE_CODES, FUNCTIONS, PRIME_CODES};
 use peer::*;
 use std::collections::{BTreeMap, BTreeSet};
 use std::fmt::Debug;

@@ -1,11 +1,14 @@
 //! Long walks over all states, each event on both sides.
 
-use crate::convert::*;
-use crate::described::{self, described};
-use crate::dice::{from_env, Dice};
-use crate::generate::{self, junk_event, Mood};
-use crate::pair::{ask_prepared, ask_starts, log, question, refused_step, Pair, Tables};
 use crate::tally::Tally;
+use common::boards::{any, any_of, described};
+use common::convert::*;
+use common::dice::{from_env, Dice};
+use common::generate::{self, junk_event, Mood};
+use common::pair::{
+    ask_prepared, ask_starts, log, prepared_in, question, refused_step, same, started_by, Pair,
+    Tables,
+};
 use lfa::flat;
 use peer::*;
 
@@ -21,14 +24,14 @@ pub struct Walk {
 impl Walk {
     /// A walk on a board of any size.
     pub fn new(dice: &mut Dice) -> Self {
-        let board = described::board(dice);
+        let board = any(dice);
         Self::on(dice, board)
     }
 
     /// A walk on a board of the size that comes after so many walks, so that
     /// each size has its turn.
     fn in_turn(dice: &mut Dice, walks: u64) -> Self {
-        let board = described::board_of(dice, 1 + walks / 2 % 32, 1 + walks % 64);
+        let board = any_of(dice, 1 + walks / 2 % 32, 1 + walks % 64);
         Self::on(dice, board)
     }
 
@@ -40,7 +43,7 @@ impl Walk {
         }
         let described = described(&board);
         let fresh = flat::fresh(&described);
-        dice.same("fresh", &fresh, &flat_fresh(Ok(board.clone())));
+        same(dice, "fresh", &fresh, &flat_fresh(Ok(board.clone())));
         Self {
             mood: Mood::any(dice, &board),
             pair: Pair {
@@ -77,22 +80,13 @@ impl Walk {
         if let Some(read) = read {
             // A short table is no matter of the log.
             if answer != Err(Refusal::ShortTable) {
-                dice.same("starts and step", &read, &self.started(&answer));
+                let started = started_by(&answer, self.pair.peer.state);
+                same(dice, "starts and step", &read, &started);
                 tally.count_read(read);
             }
         }
         if let Ok(answer) = answer {
             self.write(dice, &event, form, answer);
-        }
-    }
-
-    /// The component whose rendezvous activation the answer started.
-    fn started(&self, answer: &Result<Answer, Refusal>) -> Option<u64> {
-        match (answer, self.pair.peer.state) {
-            (Ok(answer), State::Together(id)) if answer.caller == Caller::ActivationStarted => {
-                Some(id)
-            }
-            _ => None,
         }
     }
 
@@ -105,7 +99,7 @@ impl Walk {
         };
         let peer = &self.pair.peer;
         let last = matches!(peer.state, State::Ready(_) | State::Gathering(_))
-            && (peer.on & !peer.held).count_ones() == 1;
+            && peer.on.without(peer.held).count() == 1;
         let share = if last { 6 } else { 1 };
         if dice.below(self.records() as u64 + 2) >= share {
             return None;
@@ -146,12 +140,8 @@ impl Walk {
     fn check_log(&self, dice: &mut Dice) {
         let place = self.records();
         let prepared = ask_prepared(dice, &self.log, place).expect("a good log");
-        let ready = match self.pair.peer.state {
-            State::Ready(id) | State::Gathering(id) | State::Together(id) => Some(id),
-            State::Alone(id) | State::HalfActivated(id) => Some(id),
-            _ => None,
-        };
-        dice.same("prepared and state", &prepared.component, &ready);
+        let ready = prepared_in(self.pair.peer.state);
+        same(dice, "prepared and state", &prepared.component, &ready);
         let mut longer = self.log.clone();
         longer.extend_from_within(..RECORD_BYTES.min(self.log.len()));
         let call = question(dice, &self.pair.peer);

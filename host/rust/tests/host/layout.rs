@@ -3,9 +3,49 @@
 use core::mem::{align_of, offset_of, size_of};
 
 use lfa::flat::{
-    Answer, Board, Call, Component, Cpus, Event, Found, Freed, Fresh, Image, Prepared, Record,
-    Registers, Report, Started, Written,
+    self, Abi, Answer, Board, Call, Component, Cpus, Event, Found, Freed, Fresh, Image, LogRecord,
+    Prepared, Read, Record, Registers, Report, Started, Written,
 };
+
+#[test]
+fn the_library_is_the_one_that_the_wrapper_is_for() {
+    let own = Abi {
+        number: 1,
+        record: 2024,
+        event: 88,
+        answer: 80,
+    };
+    assert_eq!((flat::abi(), Abi::OWN), (own, own));
+    flat::abi().check();
+}
+
+/// The message of a check that fails, if it does.
+fn said_of(abi: Abi) -> Option<String> {
+    let failed = std::panic::catch_unwind(|| abi.check()).err()?;
+    failed.downcast_ref::<String>().cloned()
+}
+
+#[test]
+fn another_library_is_never_called() {
+    let changes: [fn(&mut Abi) -> &mut u64; 4] = [
+        |abi| &mut abi.number,
+        |abi| &mut abi.record,
+        |abi| &mut abi.event,
+        |abi| &mut abi.answer,
+    ];
+    for change in changes {
+        for other in [0, 3, 81, 89, 2025, u64::MAX] {
+            let mut abi = Abi::OWN;
+            *change(&mut abi) = other;
+            let said = said_of(abi).expect("a message");
+            assert!(
+                said.contains(&format!("{abi:?} and not {:?}", Abi::OWN)),
+                "{said}"
+            );
+        }
+    }
+    assert_eq!(said_of(Abi::OWN), None);
+}
 
 #[test]
 fn sizes() {
@@ -25,6 +65,9 @@ fn sizes() {
     assert_eq!(size_of::<Found>(), 16);
     assert_eq!(size_of::<Prepared>(), 40);
     assert_eq!(size_of::<Started>(), 32);
+    assert_eq!(size_of::<Abi>(), 32);
+    assert_eq!(size_of::<LogRecord>(), 80);
+    assert_eq!(size_of::<Read>(), 96);
     assert_eq!(align_of::<Component>(), 4);
     assert_eq!(align_of::<Record>(), 8);
 }
@@ -87,4 +130,8 @@ fn places_in_answers() {
     assert_eq!(offset_of!(Prepared, looked), 32);
     assert_eq!(offset_of!(Started, place), 8);
     assert_eq!(offset_of!(Started, started), 16);
+    assert_eq!(offset_of!(Read, bytes), 8);
+    assert_eq!(offset_of!(Read, record), 16);
+    assert_eq!(offset_of!(LogRecord, outcome), 24);
+    assert_eq!(offset_of!(LogRecord, w6), 72);
 }

@@ -1,11 +1,12 @@
 //! Writing log records, and what a damaged log is refused with.
 
+use common::boards::{described, usual, OPTIONAL, PLAIN, RESETS};
+use common::events::*;
+use common::host::{prepared_at, read_record, starts_at, write_log, Host};
 use lfa::{
-    code, flat, function, prepared_at, starts_at, write_log, Answer, Call, Caller, Event, Flaw,
-    Freed, Refusal, Registers, Release, Report, RECORD_BYTES,
+    code, flat, function, Answer, Call, Caller, Event, Flaw, Freed, LogRecord, Refusal, Registers,
+    Release, Report, RECORD_BYTES,
 };
-
-use crate::setup::{activate_report, board, call, image, prime_report, Host, PLAIN, RESETS};
 
 const NOTHING: Answer = Answer {
     caller: Caller::Nothing,
@@ -94,9 +95,14 @@ fn a_number_without_room_in_its_field_is_31() {
     not_written(51, report, NOTHING, Refusal::FIELD);
 }
 
+/// The usual board's description.
+fn board() -> Vec<u8> {
+    described(&usual(4, 4))
+}
+
 /// An image, a PRIME, and its report.
 fn log() -> Vec<u8> {
-    let mut host = Host::new().preparing(PLAIN);
+    let mut host = Host::usual().preparing(PLAIN);
     host.take(prime_report(PLAIN, 0));
     host.log
 }
@@ -141,11 +147,17 @@ fn an_unused_field_is_31_with_its_place() {
     refused(&log, 1, 31, 2);
     log[RECORD_BYTES + 2] |= 1;
     refused(&log, 1, 31, 1);
+    // The first bad record is given, for any place; one past the end comes before.
+    log[2 * RECORD_BYTES] = 0;
+    (0..=3).for_each(|place| refused(&log, place, 31, 1));
+    refused(&log, 4, 33, 0);
+    log[0] = 0xE0;
+    refused(&log, 0, 32, 0);
 }
 
 #[test]
 fn an_x0_of_a_reset_is_31() {
-    let mut host = Host::new().together(RESETS);
+    let mut host = Host::usual().together(RESETS);
     let reset = activate_report(RESETS, code::BY_RESET);
     host.take(reset);
     let last = host.log.len() / RECORD_BYTES - 1;
@@ -201,4 +213,145 @@ fn one_cpu_starts_by_the_log() {
     assert_eq!(starts_at(&board(), &log, 2, &activate), Ok(None));
     let off = Call { cpu: 1, ..activate };
     assert_eq!(starts_at(&board(), &log, 3, &off), Ok(None));
+}
+
+#[test]
+fn a_postponement_leaves_its_component_prepared() {
+    let mut host = Host::usual().powered(3).ready(OPTIONAL);
+    for cpu in 0..3 {
+        host.activate(cpu, OPTIONAL);
+    }
+    host.take(activate_report(OPTIONAL, 2));
+    let found = prepared_at(&host.log, host.records()).expect("a log");
+    assert_eq!((found.component, found.looked), (Some(OPTIONAL), 5));
+    host.call(0, cancel(OPTIONAL));
+    let found = prepared_at(&host.log, host.records()).expect("a log");
+    assert_eq!((found.component, found.looked), (None, 1));
+}
+
+#[test]
+fn the_last_of_three_starts_by_the_log() {
+    let mut host = Host::usual().powered(3).ready(RESETS);
+    for cpu in 0..2 {
+        assert_eq!(host.would_start(cpu, activate(cpu, RESETS)), None);
+        host.activate(cpu, RESETS);
+    }
+    for (cpu, starts) in [
+        (2, Some(RESETS)),
+        (1, None),
+        (3, None),
+        (4, None),
+        (64, None),
+    ] {
+        assert_eq!(
+            host.would_start(cpu, activate(cpu, RESETS)),
+            starts,
+            "CPU {cpu}"
+        );
+    }
+    host.activate(2, RESETS);
+    for cpu in 0..4 {
+        assert_eq!(
+            host.would_start(cpu, activate(cpu, RESETS)),
+            None,
+            "CPU {cpu}"
+        );
+    }
+}
+
+#[test]
+fn earlier_arrivals_do_not_count_by_the_log() {
+    let mut host = Host::usual().together(PLAIN);
+    host.take(activate_report(PLAIN, 2));
+    assert_eq!(host.would_start(1, activate(1, PLAIN)), None);
+    host.activate(0, PLAIN);
+    assert_eq!(host.would_start(1, activate(1, PLAIN)), Some(PLAIN));
+    host.call(1, cancel(PLAIN));
+    assert_eq!(host.would_start(1, activate(1, PLAIN)), None);
+}
+
+#[test]
+fn no_rendezvous_starts_by_the_log_after_a_skip() {
+    let mut host = Host::usual().ready(OPTIONAL);
+    let mut skipped = |code, starts| {
+        assert_eq!(host.would_start(0, activate(0, OPTIONAL)), starts);
+        host.call(0, skip(OPTIONAL));
+        host.take(activate_report(OPTIONAL, code));
+    };
+    skipped(code::AGAIN, Some(OPTIONAL));
+    skipped(2, None);
+    skipped(2, Some(OPTIONAL));
+}
+
+#[test]
+fn a_record_reads_back_with_the_unread_rest() {
+    let log = log();
+    let image = LogRecord {
+        kind: 4,
+        outcome: 7,
+        w2: PLAIN,
+        w3: 5,
+        ..LogRecord::default()
+    };
+    let prime = LogRecord {
+        kind: 1,
+        outcome: 3,
+        w1: function::PRIME,
+        w2: PLAIN,
+        ..LogRecord::default()
+    };
+    let report = LogRecord {
+        kind: 2,
+        outcome: 6,
+        w2: PLAIN,
+        ..LogRecord::default()
+    };
+    let mut unread = &log[..];
+    for expected in [image, prime, report] {
+        let (record, rest) = read_record(unread).expect("a record");
+        assert_eq!(record, expected);
+        assert_eq!(rest, &unread[RECORD_BYTES..]);
+        unread = rest;
+    }
+    assert!(unread.is_empty());
+}
+
+#[test]
+fn every_field_of_a_call_reads_back() {
+    let mut buf = [0; RECORD_BYTES];
+    let event = call(63, [1, 2, 3, 4, u64::MAX]);
+    write_log(&mut buf, &event, &RETURNED).expect("room");
+    let call = LogRecord {
+        kind: 1,
+        cpu: 63,
+        code: 0,
+        outcome: 1,
+        w1: 1,
+        w2: 2,
+        w3: 3,
+        w4: 4,
+        w5: u64::MAX,
+        w6: 1,
+    };
+    assert_eq!(read_record(&buf), Ok((call, &[][..])));
+}
+
+#[test]
+fn a_record_that_is_none_is_30_32_or_31() {
+    let log = log();
+    for length in 0..RECORD_BYTES {
+        assert_eq!(read_record(&log[..length]), Err(Refusal::LOG_TOO_SHORT));
+    }
+    let mut bad = log[..RECORD_BYTES].to_vec();
+    bad[2] |= 1;
+    assert_eq!(read_record(&bad), Err(Refusal::FIELD));
+    bad[0] = 0xE0;
+    assert_eq!(read_record(&bad), Err(Refusal::UNKNOWN));
+    assert_eq!(
+        flat::read_record(&bad),
+        flat::Read {
+            refusal: 32,
+            ..flat::Read::default()
+        }
+    );
 }

@@ -1,11 +1,12 @@
-//! The linked library, as a host in Rust meets it.
+//! The linked library, as a host in Rust meets it. The peer is told the same,
+//! and has to answer the same: `common::host`.
 
 mod damage;
+mod describe;
 mod examples;
 mod layout;
 mod logs;
 mod refusals;
 mod rules;
-mod setup;
 mod update;
 mod wrapper;

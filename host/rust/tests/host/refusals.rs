@@ -1,19 +1,14 @@
 //! Every refusal of an event and of a board, and that a refused event changes nothing.
 
-use lfa::{flat, function, Component, Event, Record, Refusal};
+use common::boards::{described, usual, FIXED, OPTIONAL, PLAIN, RESETS};
+use common::convert::zero_record;
+use common::events::*;
+use common::host::{fresh, in_every_state, Host};
+use lfa::{flat, Event, Refusal, State};
 
-use crate::setup::{
-    activate_report, board, call, component, image, pack, prime_report, Host, FIXED, OPTIONAL,
-    PLAIN, RESETS,
-};
-
-/// The event is refused with this number, and record and tables stay.
+/// The event is refused with this number; that record and tables stay, the host looks at.
 fn refused(mut host: Host, event: Event, refusal: Refusal) {
-    let before = host.clone();
     assert_eq!(host.tell(event), Err(refusal), "{event:?}");
-    assert_eq!(host.record, before.record);
-    assert_eq!(host.entries, before.entries);
-    assert_eq!(host.contexts, before.contexts);
 }
 
 #[test]
@@ -37,33 +32,38 @@ fn numbers_are_document_01s() {
         Refusal::RANGE,
         Refusal::BOTH_FLAGS,
         Refusal::UUID_TWICE,
+        Refusal::COUNT,
+        Refusal::NO_BOARD_ROOM,
     ];
-    assert!(boards.iter().map(|r| r.number()).eq(20..=25));
+    assert!(boards.iter().map(|r| r.number()).eq(20..=27));
     let logs = [
+        Refusal::LOG_TOO_SHORT,
         Refusal::FIELD,
         Refusal::UNKNOWN,
         Refusal::LOG,
         Refusal::NO_ROOM,
     ];
-    assert!(logs.iter().map(|r| r.number()).eq(31..=34));
+    assert!(logs.iter().map(|r| r.number()).eq(30..=34));
 }
 
 #[test]
 fn a_short_table_is_1() {
     for (entries, contexts) in [(3, 4), (4, 3), (0, 4), (4, 0), (0, 0)] {
-        let mut host = Host::new();
+        let mut host = Host::usual();
         host.entries.truncate(entries);
         host.contexts.truncate(contexts);
-        let version = call(0, [function::VERSION, 0, 0, 0, 0]);
-        refused(host.clone(), version, Refusal::SHORT_TABLE);
-        refused(host.clone(), image(FIXED, 5), Refusal::SHORT_TABLE);
-        refused(host, call(99, [0; 5]), Refusal::SHORT_TABLE);
+        let calls = [call(0, VERSION), call(99, VERSION), call(99, [0; 5])];
+        let reports = [prime_report(PLAIN, 0), activate_report(PLAIN, 0)];
+        let images = [image(PLAIN, 5), image(FIXED, 5)];
+        for event in calls.into_iter().chain(reports).chain(images) {
+            refused(host.clone(), event, Refusal::SHORT_TABLE);
+        }
     }
 }
 
 #[test]
 fn longer_tables_are_fine_and_stay_past_the_count() {
-    let mut host = Host::new();
+    let mut host = Host::usual();
     host.entries.resize(100, 1);
     host.contexts.resize(80, 2);
     host.power(3);
@@ -74,49 +74,57 @@ fn longer_tables_are_fine_and_stay_past_the_count() {
 #[test]
 fn a_call_from_no_cpu_is_2() {
     for cpu in [4, 63, 64, u64::MAX] {
-        let version = call(cpu, [function::VERSION, 0, 0, 0, 0]);
-        refused(Host::new(), version, Refusal::NO_SUCH_CPU);
+        refused(Host::usual(), call(cpu, VERSION), Refusal::NO_SUCH_CPU);
     }
 }
 
 #[test]
 fn a_call_from_a_cpu_that_is_off_is_3() {
-    let version = call(1, [function::VERSION, 0, 0, 0, 0]);
-    refused(Host::new(), version, Refusal::CPU_OFF);
+    refused(Host::usual(), call(1, VERSION), Refusal::CPU_OFF);
+    refused(
+        Host::usual().together(PLAIN),
+        call(3, VERSION),
+        Refusal::CPU_OFF,
+    );
 }
 
 #[test]
 fn a_call_from_a_held_cpu_is_4() {
-    let version = call(0, [function::VERSION, 0, 0, 0, 0]);
-    refused(Host::new().preparing(PLAIN), version, Refusal::CPU_HELD);
-    refused(Host::new().gathering(PLAIN), version, Refusal::CPU_HELD);
-    refused(Host::new().together(PLAIN), version, Refusal::CPU_HELD);
-    refused(Host::new().alone(), version, Refusal::CPU_HELD);
+    for host in in_every_state(PLAIN) {
+        for cpu in host.record.held().iter() {
+            refused(host.clone(), call(cpu, VERSION), Refusal::CPU_HELD);
+        }
+    }
+    let held = in_every_state(PLAIN).map(|host| host.record.held().count());
+    assert_eq!(held, [0, 1, 0, 0, 1, 2, 1, 0, 0]);
 }
 
 #[test]
 fn a_report_without_its_job_is_5() {
-    refused(Host::new(), prime_report(PLAIN, 0), Refusal::NO_JOB);
-    refused(Host::new(), activate_report(PLAIN, 99), Refusal::NO_JOB);
-    let preparing = Host::new().preparing(PLAIN);
-    refused(preparing.clone(), prime_report(RESETS, 0), Refusal::NO_JOB);
-    refused(preparing, activate_report(PLAIN, 0), Refusal::NO_JOB);
-    let gathering = Host::new().gathering(PLAIN);
-    refused(gathering, activate_report(PLAIN, 0), Refusal::NO_JOB);
-    let together = Host::new().together(PLAIN);
-    refused(together.clone(), prime_report(PLAIN, 0), Refusal::NO_JOB);
-    refused(together, activate_report(u64::MAX, 0), Refusal::NO_JOB);
+    for host in in_every_state(PLAIN) {
+        let state = host.record.state();
+        for id in (0..5).chain([u64::MAX]) {
+            let prime_runs = state == State::Preparing(id);
+            let activate_runs = state == State::Together(id) || state == State::Alone(id);
+            for code in [0, 99].into_iter().filter(|_| !prime_runs) {
+                refused(host.clone(), prime_report(id, code), Refusal::NO_JOB);
+            }
+            for code in [0, 99].into_iter().filter(|_| !activate_runs) {
+                refused(host.clone(), activate_report(id, code), Refusal::NO_JOB);
+            }
+        }
+    }
 }
 
 #[test]
 fn a_code_that_is_not_allowed_is_6() {
-    let preparing = Host::new().preparing(PLAIN);
+    let preparing = Host::usual().preparing(PLAIN);
     refused(preparing, prime_report(PLAIN, 2), Refusal::CODE);
-    let together = Host::new().together(PLAIN);
+    let together = Host::usual().together(PLAIN);
     refused(together.clone(), activate_report(PLAIN, 1), Refusal::CODE);
     refused(together, activate_report(PLAIN, 12), Refusal::CODE);
     refused(
-        Host::new().alone(),
+        Host::usual().alone(),
         activate_report(OPTIONAL, 12),
         Refusal::CODE,
     );
@@ -124,29 +132,22 @@ fn a_code_that_is_not_allowed_is_6() {
 
 #[test]
 fn an_image_for_no_capable_component_is_7() {
-    for c in [FIXED, 4, 31, 32, u64::MAX] {
-        refused(Host::new(), image(c, 5), Refusal::COMPONENT);
+    for host in in_every_state(PLAIN) {
+        for c in [FIXED, 4, 31, 32, 1 << 32, u64::MAX] {
+            refused(host.clone(), image(c, 5), Refusal::COMPONENT);
+        }
     }
 }
 
 #[test]
 fn an_image_for_the_states_component_is_8() {
-    refused(
-        Host::new().preparing(PLAIN),
-        image(PLAIN, 6),
-        Refusal::IN_USE,
-    );
-    refused(Host::new().ready(PLAIN), image(PLAIN, 6), Refusal::IN_USE);
-    refused(
-        Host::new().together(RESETS),
-        image(RESETS, 6),
-        Refusal::IN_USE,
-    );
-    refused(
-        Host::new().half_activated(),
-        image(OPTIONAL, 6),
-        Refusal::IN_USE,
-    );
+    let subjects = [RESETS, RESETS, RESETS, RESETS, RESETS, OPTIONAL, OPTIONAL];
+    let [mut idle, of_a_component @ .., mut dead] = in_every_state(RESETS);
+    for (host, subject) in of_a_component.into_iter().zip(subjects) {
+        refused(host, image(subject, 6), Refusal::IN_USE);
+    }
+    idle.take(image(RESETS, 6));
+    dead.take(image(PLAIN, 6));
 }
 
 /// An event of a kind that is none is refused with this number, and record and tables stay.
@@ -168,20 +169,20 @@ fn no_kind_refused(rec: flat::Record, length: usize, refusal: u64) {
 #[test]
 fn an_event_of_unknown_kind_is_32() {
     for length in [4, 5, 64] {
-        no_kind_refused(*Host::new().record.as_flat(), length, 32);
+        no_kind_refused(*Host::usual().record.as_flat(), length, 32);
     }
 }
 
 #[test]
 fn a_short_table_comes_before_an_unknown_kind() {
     for length in 0..4 {
-        no_kind_refused(*Host::new().record.as_flat(), length, 1);
+        no_kind_refused(*Host::usual().record.as_flat(), length, 1);
     }
 }
 
 #[test]
 fn a_damaged_record_comes_before_an_unknown_kind() {
-    let good = *Host::new().record.as_flat();
+    let good = *Host::usual().record.as_flat();
     let damaged = [
         flat::Record {
             informed: 2,
@@ -210,7 +211,7 @@ fn only(refusal: u64) -> flat::Answer {
 
 #[test]
 fn a_refused_answer_has_only_its_number() {
-    let mut rec = *Host::new().record.as_flat();
+    let mut rec = *Host::usual().record.as_flat();
     let event = call(1, [u64::MAX; 5]).into();
     let answer = flat::step(&mut rec, event, &mut [0; 4], &mut [0; 4]);
     assert_eq!(answer, only(3));
@@ -218,7 +219,7 @@ fn a_refused_answer_has_only_its_number() {
 
 #[test]
 fn fields_that_the_kind_does_not_name_are_ignored() {
-    let fresh = *Host::new().record.as_flat();
+    let fresh = *Host::usual().record.as_flat();
     let noise = flat::Event {
         kind: 0,
         call: flat::Call {
@@ -254,25 +255,20 @@ fn fields_that_the_kind_does_not_name_are_ignored() {
 
 /// A board is refused with this number, and a record of zeros.
 fn board_refused(board: &[u8], refusal: Refusal) {
-    assert_eq!(Record::fresh(board), Err(refusal));
+    assert_eq!(fresh(board), Err(refusal));
     let fresh = flat::fresh(board);
     assert_eq!(fresh.refusal, refusal.number());
-    assert_eq!(fresh.rec, zeros());
+    assert_eq!(fresh.rec, zero_record());
 }
 
-fn zeros() -> flat::Record {
-    flat::Record {
-        board: flat::Board::default(),
-        pending: [0; 32],
-        version: [0; 32],
-        state: 0,
-        subject: 0,
-        on: flat::Cpus::default(),
-        held: flat::Cpus::default(),
-        entry: [0; 64],
-        context: [0; 64],
-        informed: 0,
-    }
+/// The usual board's description.
+fn board() -> Vec<u8> {
+    described(&usual(4, 4))
+}
+
+/// The place of a component's flags in a description; its UUID is before them.
+const fn flags_of(component: usize) -> usize {
+    18 + 21 * component + 16
 }
 
 #[test]
@@ -293,7 +289,7 @@ fn a_board_that_is_too_long_is_21() {
 #[test]
 fn a_reserved_bit_is_22() {
     for bit in 0..5 {
-        for place in [1, 34, 34 + 21] {
+        for place in [1, flags_of(0), flags_of(1)] {
             let mut board = board();
             board[place] |= 1 << bit;
             board_refused(&board, Refusal::RESERVED_BIT);
@@ -310,27 +306,33 @@ fn a_range_that_ends_before_it_begins_is_23() {
 
 #[test]
 fn optional_with_may_reset_is_24() {
-    board_refused(&pack(1, &[component(0, 1, 1)]), Refusal::BOTH_FLAGS);
+    let mut board = board();
+    board[flags_of(PLAIN as usize)] |= 0x60;
+    board_refused(&board, Refusal::BOTH_FLAGS);
 }
 
 #[test]
 fn a_uuid_twice_is_25() {
-    let other = Component {
-        svn: 9,
-        ..component(7, 1, 0)
-    };
-    let all = [component(7, 0, 0), component(8, 0, 0), other];
-    board_refused(&pack(1, &all), Refusal::UUID_TWICE);
+    for other in 1..4 {
+        let mut board = board();
+        board.copy_within(18..34, flags_of(other) - 16);
+        board_refused(&board, Refusal::UUID_TWICE);
+    }
 }
 
 #[test]
 fn the_first_refusal_of_a_board_is_given() {
-    let mut bad = pack(1, &[component(7, 1, 1), component(7, 1, 1)]);
+    let mut bad = board();
+    bad.copy_within(18..34, flags_of(1) - 16);
+    board_refused(&bad, Refusal::UUID_TWICE);
+    bad[flags_of(2)] |= 0x60;
     board_refused(&bad, Refusal::BOTH_FLAGS);
     bad[2] = 1;
     board_refused(&bad, Refusal::RANGE);
     bad[1] |= 1;
     board_refused(&bad, Refusal::RESERVED_BIT);
+    let short = bad.len() - 1;
+    board_refused(&bad[..short], Refusal::BOARD_TOO_SHORT);
     bad.push(0);
     board_refused(&bad, Refusal::BOARD_TOO_LONG);
 }

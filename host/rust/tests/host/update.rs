@@ -1,13 +1,10 @@
 //! The update of two CPUs, with its log and the two questions.
 
+use common::boards::{usual, FIRST};
+use common::events::*;
+use common::host::{prepared_at, returned, starts_at, Host};
 use lfa::{
-    function, prepared_at, starts_at, Call, Caller, Cpus, Event, Freed, Refusal, Release, State,
-    RECORD_BYTES,
-};
-
-use crate::setup::{
-    activate, activate_report, call, component, from_cpu, image, pack, prime_report, returned,
-    Host, FIRST,
+    function, status, Call, Caller, Cpus, Event, Freed, Refusal, Release, State, RECORD_BYTES,
 };
 
 const UPDATED: u64 = 1;
@@ -17,17 +14,17 @@ fn events() -> [Event; 8] {
     [
         call(0, [function::CPU_ON, 1, FIRST, 0xC1, 0]),
         image(UPDATED, 5),
-        call(0, [function::PRIME, UPDATED, 0, 0, 0]),
+        call(0, prime(UPDATED)),
         prime_report(UPDATED, 0),
         call(0, activate(0, UPDATED)),
-        call(0, [function::VERSION, 0, 0, 0, 0]),
+        call(0, VERSION),
         call(1, activate(1, UPDATED)),
         activate_report(UPDATED, 12),
     ]
 }
 
 fn fresh() -> Host {
-    Host::of(pack(2, &[component(0, 0, 0), component(1, 1, 0)]))
+    Host::of(&usual(2, 2))
 }
 
 fn updated() -> Host {
@@ -112,22 +109,25 @@ fn the_log_says_what_starts() {
     }
 }
 
-/// In a log that no agent writes: a CPU_ON of 64 that returned 0, anywhere
-/// before the call.
+/// In a log that no agent writes: a CPU_ON of any number that returned 0, anywhere before the call.
 #[test]
 fn nothing_starts_after_a_cpu_that_no_set_has() {
     let host = updated();
     let last = from_cpu(1, activate(1, UPDATED));
-    let target = 3 + 2 * 8 - 1;
-    for place in 0..=5 {
+    let after_on = |place: usize, target: u64, given: u64| {
         let (before, after) = host.log.split_at(place * RECORD_BYTES);
         let mut on = host.log[..RECORD_BYTES].to_vec();
-        on[target] = 64;
+        on[11..19].copy_from_slice(&target.to_be_bytes());
+        on[43..].copy_from_slice(&given.to_be_bytes());
         let log = [before, &on, after].concat();
-        assert_eq!(starts_at(&host.board, &log, 6, &last), Ok(None), "place {place}");
-        on[target] = 1;
-        let log = [before, &on, after].concat();
-        assert_eq!(starts_at(&host.board, &log, 6, &last), Ok(Some(UPDATED)), "place {place}");
+        starts_at(&host.board, &log, 6, &last).expect("a log")
+    };
+    for place in 0..=5 {
+        for target in [63, 64, 65, 256, 1 << 32, u64::MAX] {
+            assert_eq!(after_on(place, target, 0), None, "{target}");
+            assert_eq!(after_on(place, target, status(2)), Some(UPDATED));
+        }
+        assert_eq!(after_on(place, 1, 0), Some(UPDATED), "place {place}");
     }
 }
 

@@ -2,12 +2,11 @@
 
 use std::error::Error;
 
+use common::events::{activate_report, call, image, prime_report};
 use lfa::{
     flat, prepared_at, Answer, Caller, Cpus, Event, Freed, Record, Refusal, Registers, Release,
     State,
 };
-
-use crate::setup::{activate_report, call, image, prime_report};
 
 #[test]
 fn states_from_numbers() {

@@ -1,6 +1,6 @@
 //! Events: mostly with a meaning, sometimes without.
 
-use crate::described::count;
+use crate::boards::count;
 use crate::dice::Dice;
 use lfa::flat;
 use peer::*;
@@ -58,7 +58,7 @@ pub fn junk_event(dice: &mut Dice) -> flat::Event {
 /// How a walk goes.
 pub struct Mood {
     /// How many CPUs should be on.
-    crew: u32,
+    crew: u64,
     /// One event in so many does not try to move on.
     noise: u64,
 }
@@ -66,7 +66,7 @@ pub struct Mood {
 impl Mood {
     pub fn any(dice: &mut Dice, board: &Board) -> Self {
         Self {
-            crew: count(dice, board.cpus).min(board.cpus) as u32,
+            crew: count(dice, board.cpus).min(board.cpus),
             noise: dice.one_of(&[1, 2, 2, 4, 4, 8, 32, 128]),
         }
     }
@@ -100,8 +100,8 @@ pub fn noise(dice: &mut Dice, record: &Record) -> Event {
 
 /// An event that moves the state on.
 fn onward(dice: &mut Dice, record: &Record, mood: &Mood) -> Event {
-    let free = record.on & !record.held;
-    let short = record.on.count_ones() < mood.crew;
+    let free = record.on.without(record.held);
+    let short = record.on.count() < mood.crew;
     let own = record.state.component().unwrap_or(0);
     match record.state {
         State::Idle | State::Ready(_) if short && dice.one_in(2) => power_on(dice, record, free),
@@ -131,11 +131,7 @@ fn onward(dice: &mut Dice, record: &Record, mood: &Mood) -> Event {
 
 /// One of the pending components.
 fn pending(dice: &mut Dice, record: &Record) -> Option<u64> {
-    let mut set = 0;
-    for (place, &pending) in record.pending.iter().enumerate() {
-        set |= u64::from(pending) << place;
-    }
-    dice.member(set)
+    dice.member((0..record.board.components).filter(|&id| record.pending[id as usize]))
 }
 
 /// Mostly done, so that walks get on.
@@ -155,21 +151,21 @@ fn activate_code(dice: &mut Dice) -> u64 {
     }
 }
 
-fn simple(dice: &mut Dice, from: u64, function: Function, id: u64) -> Event {
+fn simple(dice: &mut Dice, from: CpuSet, function: Function, id: u64) -> Event {
     Event::Call(Call {
-        cpu: dice.member(from).unwrap_or(0),
+        cpu: dice.member(from.members()).unwrap_or(0),
         x0: function.number(),
         x1: id,
         ..Call::default()
     })
 }
 
-fn power_on(dice: &mut Dice, record: &Record, from: u64) -> Event {
-    let all = u64::MAX >> (64 - record.board.cpus);
+fn power_on(dice: &mut Dice, record: &Record, from: CpuSet) -> Event {
+    let off = CpuSet::below(record.board.cpus).without(record.on);
     Event::Call(Call {
-        cpu: dice.member(from).unwrap_or(0),
+        cpu: dice.member(from.members()).unwrap_or(0),
         x0: Function::CpuOn.number(),
-        x1: dice.member(all & !record.on).unwrap_or(0),
+        x1: dice.member(off.members()).unwrap_or(0),
         x2: good_entry(dice, &record.board),
         x3: dice.word(),
         x4: 0,
@@ -177,7 +173,7 @@ fn power_on(dice: &mut Dice, record: &Record, from: u64) -> Event {
 }
 
 /// ACTIVATE from a CPU that has not arrived yet.
-fn arrive(dice: &mut Dice, record: &Record, from: u64) -> Event {
+fn arrive(dice: &mut Dice, record: &Record, from: CpuSet) -> Event {
     let own = record.state.component().unwrap_or(0);
     let optional = record.board.component[own as usize].optional;
     let skip = match record.state {
@@ -186,7 +182,7 @@ fn arrive(dice: &mut Dice, record: &Record, from: u64) -> Event {
         _ => false,
     };
     Event::Call(Call {
-        cpu: dice.member(from).unwrap_or(0),
+        cpu: dice.member(from.members()).unwrap_or(0),
         x0: Function::Activate.number(),
         x1: own,
         x2: skip.into(),
@@ -249,7 +245,7 @@ pub fn id(dice: &mut Dice, record: &Record) -> u64 {
 
 /// A CPU's number, mostly of one that may call.
 fn cpu(dice: &mut Dice, record: &Record) -> u64 {
-    let free = dice.member(record.on & !record.held);
+    let free = dice.member(record.on.without(record.held).members());
     match (dice.below(32), free) {
         (0, _) => record.board.cpus + dice.below(3),
         (1, _) => 60 + dice.below(8),

@@ -1,6 +1,6 @@
 //! Repeatable random numbers that know how far a test has come.
 
-use std::fmt::{self, Debug, Display};
+use std::fmt::{self, Display};
 
 /// A generator that counts the steps of its test, for the failure messages.
 pub struct Dice {
@@ -21,6 +21,11 @@ impl Dice {
         let seed = from_env("COMPARE_SEED", 1);
         // Not every failure has the dice at hand.
         println!("COMPARE_SEED={seed}");
+        Self::of(seed, salt)
+    }
+
+    /// The dice of a seed.
+    pub fn of(seed: u64, salt: u64) -> Self {
         Self {
             seed,
             state: seed ^ salt << 56,
@@ -62,16 +67,12 @@ impl Dice {
         list[self.place(list.len())]
     }
 
-    /// One CPU of a set, if it has any.
-    pub fn member(&mut self, mut set: u64) -> Option<u64> {
-        let size = set.count_ones();
-        if size == 0 {
-            return None;
+    /// One of the members of a set, if it has any.
+    pub fn member(&mut self, mut members: impl Iterator<Item = u64> + Clone) -> Option<u64> {
+        match members.clone().count() {
+            0 => None,
+            size => members.nth(self.place(size)),
         }
-        for _ in 0..self.below(u64::from(size)) {
-            set &= set - 1;
-        }
-        Some(u64::from(set.trailing_zeros()))
     }
 
     /// Fills bytes at random.
@@ -80,15 +81,6 @@ impl Dice {
             let word = self.word().to_le_bytes();
             part.copy_from_slice(&word[..part.len()]);
         }
-    }
-
-    /// Fails with seed and step unless the two are equal.
-    #[track_caller]
-    pub fn same<T: PartialEq + Debug>(&self, what: &str, library: &T, peer: &T) {
-        assert!(
-            library == peer,
-            "{self}: {what}\nlibrary: {library:?}\n   peer: {peer:?}"
-        );
     }
 }
 

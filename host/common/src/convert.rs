@@ -19,6 +19,14 @@ pub fn unknown_refusal(known: u64) -> u64 {
     }
 }
 
+/// The number of the refusal, or 0.
+pub fn refusal_of<T>(result: &Result<T, Refusal>) -> u64 {
+    match result {
+        Ok(_) => 0,
+        Err(refusal) => refusal.number(),
+    }
+}
+
 /// The number of a state and its component, 0 where it has none.
 fn state_numbers(state: State) -> (u64, u64) {
     match state {
@@ -65,7 +73,7 @@ fn flat_component(component: &Component) -> flat::Component {
     }
 }
 
-fn flat_board(board: &Board) -> flat::Board {
+pub fn flat_board(board: &Board) -> flat::Board {
     flat::Board {
         components: board.components,
         cpus: board.cpus,
@@ -73,6 +81,14 @@ fn flat_board(board: &Board) -> flat::Board {
         last: board.last,
         component: board.component.each_ref().map(flat_component),
     }
+}
+
+pub fn flat_cpus(cpus: CpuSet) -> flat::Cpus {
+    cpus.members().collect()
+}
+
+pub fn peer_cpus(cpus: flat::Cpus) -> CpuSet {
+    cpus.iter().collect()
 }
 
 pub fn flat_record(record: &Record) -> flat::Record {
@@ -83,8 +99,8 @@ pub fn flat_record(record: &Record) -> flat::Record {
         version: record.version,
         state,
         subject,
-        on: flat::Cpus { bits: record.on },
-        held: flat::Cpus { bits: record.held },
+        on: flat_cpus(record.on),
+        held: flat_cpus(record.held),
         entry: record.entry,
         context: record.context,
         informed: record.informed.into(),
@@ -110,27 +126,41 @@ fn peer_component(component: &flat::Component) -> Option<Component> {
     })
 }
 
+/// The peer's board with the first so many components.
+fn peer_board(board: &flat::Board, counted: usize) -> Option<Board> {
+    let mut component = [Component::default(); MAX_COMPONENTS];
+    for (each, flat) in component.iter_mut().zip(&board.component[..counted]) {
+        *each = peer_component(flat)?;
+    }
+    Some(Board {
+        components: board.components,
+        cpus: board.cpus,
+        first: board.first,
+        last: board.last,
+        component,
+    })
+}
+
+/// The peer's board to be written, unless a flag is none: one within the
+/// count, or any where the count is over the limit.
+pub fn peer_parts(board: &flat::Board) -> Option<Board> {
+    let counted = board.components.min(MAX_COMPONENTS as u64);
+    peer_board(board, counted as usize)
+}
+
 /// The peer's record, unless its types cannot hold what the flat one says.
 pub fn peer_record(record: &flat::Record) -> Option<Record> {
-    let mut component = [Component::default(); MAX_COMPONENTS];
     let mut pending = [false; MAX_COMPONENTS];
-    for place in 0..MAX_COMPONENTS {
-        component[place] = peer_component(&record.board.component[place])?;
-        pending[place] = flag(record.pending[place])?;
+    for (pending, &number) in pending.iter_mut().zip(&record.pending) {
+        *pending = flag(number)?;
     }
     Some(Record {
-        board: Board {
-            components: record.board.components,
-            cpus: record.board.cpus,
-            first: record.board.first,
-            last: record.board.last,
-            component,
-        },
+        board: peer_board(&record.board, MAX_COMPONENTS)?,
         pending,
         version: record.version,
         state: state(record.state, record.subject)?,
-        on: record.on.bits,
-        held: record.held.bits,
+        on: peer_cpus(record.on),
+        held: peer_cpus(record.held),
         entry: record.entry,
         context: record.context,
         informed: flag(record.informed)?,
@@ -138,21 +168,15 @@ pub fn peer_record(record: &flat::Record) -> Option<Record> {
 }
 
 /// A record with nothing in it, as it comes with a refused board.
-fn zero_record() -> flat::Record {
+pub fn zero_record() -> flat::Record {
     flat::Record {
-        board: flat::Board {
-            components: 0,
-            cpus: 0,
-            first: 0,
-            last: 0,
-            component: Default::default(),
-        },
+        board: flat::Board::default(),
         pending: [0; MAX_COMPONENTS],
         version: [0; MAX_COMPONENTS],
         state: 0,
         subject: 0,
-        on: flat::Cpus { bits: 0 },
-        held: flat::Cpus { bits: 0 },
+        on: flat::Cpus::default(),
+        held: flat::Cpus::default(),
         entry: [0; MAX_CPUS],
         context: [0; MAX_CPUS],
         informed: 0,
@@ -220,6 +244,17 @@ pub fn flat_event(event: &Event, rest: flat::Event) -> flat::Event {
     }
 }
 
+pub fn peer_call(call: &flat::Call) -> Call {
+    Call {
+        cpu: call.cpu,
+        x0: call.x0,
+        x1: call.x1,
+        x2: call.x2,
+        x3: call.x3,
+        x4: call.x4,
+    }
+}
+
 /// The peer's event, if the kind is known.
 pub fn peer_event(event: &flat::Event) -> Option<Event> {
     let report = Report {
@@ -227,14 +262,7 @@ pub fn peer_event(event: &flat::Event) -> Option<Event> {
         code: event.report.code,
     };
     Some(match event.kind {
-        CALL => Event::Call(Call {
-            cpu: event.call.cpu,
-            x0: event.call.x0,
-            x1: event.call.x1,
-            x2: event.call.x2,
-            x3: event.call.x3,
-            x4: event.call.x4,
-        }),
+        CALL => Event::Call(peer_call(&event.call)),
         PRIME => Event::Prime(report),
         ACTIVATE => Event::Activate(report),
         IMAGE => Event::Image(Image {
@@ -253,9 +281,9 @@ pub fn flat_refused(refusal: u64) -> flat::Answer {
     }
 }
 
-fn flat_freed(cpus: u64, x0: u64, x1: u64) -> flat::Freed {
+fn flat_freed(cpus: CpuSet, x0: u64, x1: u64) -> flat::Freed {
     flat::Freed {
-        cpus: flat::Cpus { bits: cpus },
+        cpus: flat_cpus(cpus),
         x0,
         x1,
     }
@@ -301,7 +329,7 @@ pub fn peer_answer(answer: &flat::Answer) -> Option<Answer> {
         _ => Caller::Nothing,
     };
     let flat::Freed { cpus, x0, x1 } = answer.freed;
-    let cpus = cpus.bits;
+    let cpus = peer_cpus(cpus);
     let release = match answer.release {
         1 => Release::Returned { cpus, x0, x1 },
         2 => Release::Resumed(cpus),
@@ -310,12 +338,47 @@ pub fn peer_answer(answer: &flat::Answer) -> Option<Answer> {
     (answer.refusal == 0).then_some(Answer { caller, release })
 }
 
+/// The peer's record of an event and its answer, if both are.
+pub fn peer_logged(event: &flat::Event, answer: &flat::Answer) -> Option<LogRecord> {
+    Some(logged(&peer_event(event)?, &peer_answer(answer)?))
+}
+
 pub fn flat_written(written: Result<usize, Refusal>) -> flat::Written {
     match written {
         Ok(bytes) => flat::Written { refusal: 0, bytes },
         Err(refusal) => flat::Written {
             refusal: refusal.number(),
             bytes: 0,
+        },
+    }
+}
+
+fn flat_log_record(record: &LogRecord) -> flat::LogRecord {
+    let [w1, w2, w3, w4, w5, w6] = record.words;
+    flat::LogRecord {
+        kind: record.kind,
+        cpu: record.cpu,
+        code: record.code,
+        outcome: record.outcome,
+        w1,
+        w2,
+        w3,
+        w4,
+        w5,
+        w6,
+    }
+}
+
+pub fn flat_read(read: Result<LogRecord, Refusal>) -> flat::Read {
+    match read {
+        Ok(record) => flat::Read {
+            refusal: 0,
+            bytes: RECORD_BYTES,
+            record: flat_log_record(&record),
+        },
+        Err(refusal) => flat::Read {
+            refusal: refusal.number(),
+            ..flat::Read::default()
         },
     }
 }

@@ -1,7 +1,41 @@
-//! Boards that both sides take.
+//! Boards that both sides take: the usual one, and any.
 
 use crate::dice::Dice;
 use peer::*;
+
+/// The components of the usual board, by what is special about them.
+pub const PLAIN: u64 = 0;
+pub const RESETS: u64 = 1;
+pub const OPTIONAL: u64 = 2;
+pub const FIXED: u64 = 3;
+
+/// Range and SVN of the usual board.
+pub const FIRST: u64 = 0x1000;
+pub const LAST: u64 = 0x1FFF;
+pub const SVN: u32 = 5;
+
+/// The usual board at this size: the four kinds of components in turn. UUID
+/// bytes of the first one are 00 to 0f.
+pub fn usual(components: u64, cpus: u64) -> Board {
+    let mut board = Board {
+        components,
+        cpus,
+        first: FIRST,
+        last: LAST,
+        component: [Component::default(); MAX_COMPONENTS],
+    };
+    for (place, each) in (0u8..).zip(&mut board.component[..components as usize]) {
+        let kind = u64::from(place) % 4;
+        *each = Component {
+            uuid: std::array::from_fn(|byte| byte as u8 ^ place << 3),
+            capable: kind != FIXED,
+            may_reset: kind == RESETS,
+            optional: kind == OPTIONAL,
+            svn: SVN,
+        };
+    }
+    board
+}
 
 /// A count up to the most: small, large or any.
 pub fn count(dice: &mut Dice, most: u64) -> u64 {
@@ -24,7 +58,7 @@ fn range(dice: &mut Dice) -> (u64, u64) {
         8..=11 => (u64::MAX - one % 64, u64::MAX),
         12..=15 => (0, one % 64),
         16..=19 => (one.min(other), one.max(other)),
-        _ => (0x1000, 0x1FFF),
+        _ => (FIRST, LAST),
     }
 }
 
@@ -53,7 +87,7 @@ fn svn(dice: &mut Dice) -> u32 {
 }
 
 /// A board of these counts that both sides take.
-pub fn board_of(dice: &mut Dice, components: u64, cpus: u64) -> Board {
+pub fn any_of(dice: &mut Dice, components: u64, cpus: u64) -> Board {
     let (first, last) = range(dice);
     let mut board = Board {
         components,
@@ -74,9 +108,9 @@ pub fn board_of(dice: &mut Dice, components: u64, cpus: u64) -> Board {
 }
 
 /// A board of any size that both sides take.
-pub fn board(dice: &mut Dice) -> Board {
+pub fn any(dice: &mut Dice) -> Board {
     let (components, cpus) = (count(dice, 32), count(dice, 64));
-    board_of(dice, components, cpus)
+    any_of(dice, components, cpus)
 }
 
 /// The packed description of a board.

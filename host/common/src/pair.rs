@@ -1,15 +1,38 @@
-//! One step, log record or question on both sides, and that they agree.
+//! One board, step, log record or question on both sides, and that they agree.
+//! Where they do not, the message says at what it was.
 
 use crate::convert::*;
 use crate::dice::Dice;
 use crate::generate::{any_call, junk_event};
 use lfa::flat;
 use peer::*;
+use std::fmt::{Debug, Display};
 
 /// Places of a lent table, more than any board has CPUs.
 const PLACES: usize = 72;
 /// Bytes of a lent buffer, more than a log record has.
 const ROOM: usize = 60;
+
+/// Fails unless the two are equal.
+#[track_caller]
+pub fn same<T: PartialEq + Debug>(at: &impl Display, what: &str, library: &T, peer: &T) {
+    assert!(
+        library == peer,
+        "{at}: {what}\nlibrary: {library:?}\n   peer: {peer:?}"
+    );
+}
+
+/// Reads a board's description on both sides.
+pub fn read_board(at: &impl Display, bytes: &[u8]) -> Result<Board, Refusal> {
+    let expected = Board::read(bytes);
+    same(
+        at,
+        "fresh",
+        &(bytes, flat::fresh(bytes)),
+        &(bytes, flat_fresh(expected.clone())),
+    );
+    expected
+}
 
 /// The two lent tables, each with places past the part that is lent.
 #[derive(Clone, PartialEq, Debug)]
@@ -99,7 +122,7 @@ fn library_step(
 /// A step of the library that has to be refused with this number and to
 /// change nothing.
 pub fn refused_step(
-    dice: &Dice,
+    at: &impl Display,
     record: &flat::Record,
     event: flat::Event,
     tables: &Tables,
@@ -107,9 +130,9 @@ pub fn refused_step(
 ) {
     let (mut after, mut tables_after) = (*record, tables.clone());
     let answer = library_step(&mut after, event, &mut tables_after);
-    dice.same("refused answer", &answer, &flat_refused(refusal));
-    dice.same("record after a refusal", &after, record);
-    dice.same("tables after a refusal", &tables_after, tables);
+    same(at, "refused answer", &answer, &flat_refused(refusal));
+    same(at, "record after a refusal", &after, record);
+    same(at, "tables after a refusal", &tables_after, tables);
 }
 
 /// The same record on both sides.
@@ -132,14 +155,33 @@ impl Pair {
         let answer = library_step(&mut self.library, form, &mut theirs);
         let (entries, contexts) = ours.lend();
         let expected = self.peer.step(event, entries, contexts);
-        dice.same("answer", &(form, answer), &(form, flat_answer(&expected)));
-        dice.same("record", &self.library, &flat_record(&self.peer));
-        dice.same("tables", &theirs, &ours);
+        let given = flat_answer(&expected);
+        same(dice, "answer", &(form, answer), &(form, given));
+        same(dice, "record", &self.library, &flat_record(&self.peer));
+        same(dice, "tables", &theirs, &ours);
         if expected.is_err() {
-            dice.same("refused, record", &self.library, &before);
-            dice.same("refused, tables", &theirs, tables);
+            same(dice, "refused, record", &self.library, &before);
+            same(dice, "refused, tables", &theirs, tables);
         }
         (expected, form)
+    }
+}
+
+/// The component that a log has to say is prepared in a state.
+pub fn prepared_in(state: State) -> Option<u64> {
+    match state {
+        State::Ready(id) | State::Gathering(id) | State::Together(id) => Some(id),
+        State::Alone(id) | State::HalfActivated(id) => Some(id),
+        _ => None,
+    }
+}
+
+/// The component whose rendezvous activation an answer started, by the state
+/// that it led to.
+pub fn started_by(answer: &Result<Answer, Refusal>, after: State) -> Option<u64> {
+    match (answer, after) {
+        (Ok(answer), State::Together(id)) if answer.caller == Caller::ActivationStarted => Some(id),
+        _ => None,
     }
 }
 
@@ -152,8 +194,60 @@ fn room(dice: &mut Dice) -> usize {
     }
 }
 
-/// Writes a log record on both sides; `expected` is the peer's record, or none
-/// where the library has to refuse with 32. The written bytes, if any.
+/// Writes a log record on both sides at the start of a buffer; `expected` is
+/// the peer's record, or none where the library has to refuse with 32.
+pub fn write(
+    at: &impl Display,
+    buf: &mut [u8],
+    event: flat::Event,
+    answer: flat::Answer,
+    expected: Option<LogRecord>,
+) -> Result<usize, Refusal> {
+    let mut ours = buf.to_vec();
+    let written = flat::log(buf, event, answer);
+    let expected = match expected {
+        Some(record) => record.write(&mut ours),
+        None => Err(Refusal::Unknown),
+    };
+    same(
+        at,
+        "log",
+        &(event, answer, written, &*buf),
+        &(event, answer, flat_written(expected), &*ours),
+    );
+    expected
+}
+
+/// Writes a board's description from its parts on both sides.
+pub fn describe(at: &impl Display, buf: &mut [u8], parts: &flat::Board) -> Result<usize, Refusal> {
+    let mut ours = buf.to_vec();
+    let written = flat::describe(buf, *parts);
+    let expected = match peer_parts(parts) {
+        Some(board) => board.write(&mut ours),
+        None => Err(Refusal::ReservedBit),
+    };
+    same(
+        at,
+        "description",
+        &(parts, written, &*buf),
+        &(parts, flat_written(expected), &*ours),
+    );
+    expected
+}
+
+/// Reads the log record that the bytes open with, on both sides.
+pub fn read_record(at: &impl Display, bytes: &[u8]) -> Result<LogRecord, Refusal> {
+    let expected = LogRecord::read(bytes);
+    same(
+        at,
+        "log record",
+        &(bytes, flat::read_record(bytes)),
+        &(bytes, flat_read(expected)),
+    );
+    expected
+}
+
+/// The same with any room; the bytes after it stay. The written bytes, if any.
 pub fn log(
     dice: &mut Dice,
     event: flat::Event,
@@ -161,34 +255,26 @@ pub fn log(
     expected: Option<LogRecord>,
 ) -> Option<[u8; RECORD_BYTES]> {
     let length = room(dice);
-    let mut theirs = [0; ROOM];
-    dice.fill(&mut theirs);
-    let mut ours = theirs;
-    let written = flat::log(&mut theirs[..length], event, answer);
-    let expected = match expected {
-        Some(record) => record.write(&mut ours[..length]),
-        None => Err(Refusal::Unknown),
-    };
-    dice.same(
-        "log",
-        &(event, answer, length, written),
-        &(event, answer, length, flat_written(expected)),
-    );
-    dice.same("log bytes", &theirs, &ours);
-    expected.ok()?;
-    theirs.first_chunk().copied()
+    let mut bytes = [0; ROOM];
+    dice.fill(&mut bytes);
+    let past = bytes;
+    let written = write(dice, &mut bytes[..length], event, answer, expected);
+    same(dice, "past the buffer", &&bytes[length..], &&past[length..]);
+    written.ok()?;
+    bytes.first_chunk().copied()
 }
 
 /// Both questions at a place, on both sides.
-pub fn ask(dice: &Dice, board: &[u8], log: &[u8], place: usize, call: &Call) {
-    let _ = ask_prepared(dice, log, place);
-    let _ = ask_starts(dice, board, log, place, call);
+pub fn ask(at: &impl Display, board: &[u8], log: &[u8], place: usize, call: &Call) {
+    let _ = ask_prepared(at, log, place);
+    let _ = ask_starts(at, board, log, place, call);
 }
 
 /// What is prepared at a place, on both sides.
-pub fn ask_prepared(dice: &Dice, log: &[u8], place: usize) -> Result<Prepared, Flaw> {
+pub fn ask_prepared(at: &impl Display, log: &[u8], place: usize) -> Result<Prepared, Flaw> {
     let expected = prepared_at(log, place);
-    dice.same(
+    same(
+        at,
         "prepared",
         &(place, flat::prepared(log, place)),
         &(place, flat_prepared(expected)),
@@ -198,14 +284,15 @@ pub fn ask_prepared(dice: &Dice, log: &[u8], place: usize) -> Result<Prepared, F
 
 /// What starts at a call, on both sides.
 pub fn ask_starts(
-    dice: &Dice,
+    at: &impl Display,
     board: &[u8],
     log: &[u8],
     place: usize,
     call: &Call,
 ) -> Result<Option<u64>, Flaw> {
     let expected = starts_at(board, log, place, call);
-    dice.same(
+    same(
+        at,
         "starts",
         &(
             place,

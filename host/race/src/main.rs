@@ -1,15 +1,16 @@
 //! The library beside the peer: events, replayed records and log bytes a
 //! second, as a Markdown table. With the argument `quick`, few short rounds.
 
-mod race;
+mod turns;
 mod update;
 
+use common::convert::peer_call;
 use lfa::flat;
 use peer::{prepared_at, starts_at, MAX_CPUS, MAX_RECORDS};
-use race::{race, Pace, Times};
 use std::hint::black_box;
 use std::time::Duration;
-use update::{flat_call, Update};
+use turns::{race, Pace, Times};
+use update::Update;
 
 const FULL: Pace = Pace {
     rounds: 40,
@@ -48,25 +49,24 @@ fn main() {
 /// Events of whole updates. Both records lie where the run before left them,
 /// which is where the events start.
 fn events(pace: Pace, update: &Update) -> Times {
-    let flat_events = update.flat_events();
-    let mut flat_record = update.flat_record();
-    let mut record = update.record.clone();
+    let mut flat_record = update.library_record;
+    let mut record = update.peer_record.clone();
     let (mut entries, mut contexts) = ([0; MAX_CPUS], [0; MAX_CPUS]);
     let (mut flat_entries, mut flat_contexts) = (entries, contexts);
     let library = || {
-        for &event in &flat_events {
+        for &event in &update.library_events {
             let (entries, contexts) = (&mut flat_entries, &mut flat_contexts);
             let answer = flat::step(&mut flat_record, black_box(event), entries, contexts);
             assert_eq!(black_box(answer).refusal, 0);
         }
     };
     let peer = || {
-        for event in &update.events {
+        for event in &update.peer_events {
             let answer = record.step(black_box(event), &mut entries, &mut contexts);
             assert!(black_box(answer).is_ok());
         }
     };
-    race(pace, update.events.len(), library, peer)
+    race(pace, update.peer_events.len(), library, peer)
 }
 
 /// Records of a full log, replayed to tell what starts at its end.
@@ -74,11 +74,11 @@ fn records(pace: Pace, update: &Update) -> Times {
     let call = update.question();
     let (board, log) = (&update.board[..], &update.log[..]);
     let library = || {
-        let started = flat::starts(board, black_box(log), MAX_RECORDS, flat_call(&call));
+        let started = flat::starts(board, black_box(log), MAX_RECORDS, call);
         assert_eq!(black_box(started).refusal, 0);
     };
     let peer = || {
-        let started = starts_at(board, black_box(log), MAX_RECORDS, &call);
+        let started = starts_at(board, black_box(log), MAX_RECORDS, &peer_call(&call));
         assert!(black_box(started).is_ok());
     };
     race(pace, MAX_RECORDS, library, peer)
