@@ -1,18 +1,32 @@
 /*
- * The live firmware activation agent, as a host links it: a board's record, one event at a time, the log, and two questions
- * that a log answers. The rules are document 01's; C99, and C++ as well.
+ * The live firmware activation agent, as a host links it: a board's description and its record, one event at a time, the log, and
+ * two questions that a log answers. The rules are document 01's; C99, and C++ as well. host/c/monitor.c is a monitor to copy.
  *
  * All that crosses is numbers, arrays of numbers, and structs of these. Whatever they hold, the answer is a stated one: nothing
- * here aborts, allocates or keeps anything between two calls. The library calls memcpy and memset and nothing else; lfa_step
- * takes some 16 KB of stack.
+ * here aborts, allocates or keeps anything between two calls. The library calls memcpy and memset and nothing else: a host without
+ * a C library brings these two.
  *
  * What the host owes:
- * - It is a 64-bit host (x86-64), where size_t has 8 bytes.
+ * - It asks lfa_fits before anything else. A library that was built for another record would write past this one.
+ * - It is an x86-64 host where size_t has 8 bytes, its structs are not packed, and it calls by the System V convention of x86-64.
+ * - Its stack is aligned to 16 bytes at a call, as that convention has it, and has room for what LFA_STACK_ says.
+ * - SSE2 is switched on, and xmm0 to xmm15 are the library's during a call: the host saves them for whoever it serves. No other
+ *   floating-point or vector register is touched.
+ * - No interrupt is taken on the stack of a call: each is off, or has a stack of its own. The 128 bytes under the stack pointer
+ *   (the red zone) are in use, and the processor itself writes there, before a handler could step over them. A program under Linux
+ *   has all this from the system, whose signals step over the red zone.
  * - A pointer is aligned, and valid for the length that comes with it; where that is 0 it may be null. A record's pointer is
  *   never null.
  * - The record is writable, even where the event is refused: it is stored again as it was.
  * - The record, the two tables and the buffers that a call is lent do not overlap.
  * - One call at a time for a record: the library takes no lock.
+ * - A record that is stored stays with its LFA_ABI and on hosts of this byte order: another library may take its bytes for others.
+ *   Board descriptions and logs are the same bytes everywhere.
+ *
+ * How to log: an event that lfa_step accepted can't be taken back. So look for room for a record (LFA_LOG_RECORD_BYTES) first, and
+ * where there is none keep the event back; where there is, lfa_log writes whatever lfa_step accepted. With LFA_MOST_LOG_RECORDS
+ * records a log is full: store it away, and begin the next one with a board that starts fresh. Both questions read a log from a
+ * fresh board on, so of a log that begins later they know too little; lfa_read_record reads any.
  *
  * Bytes between the fields of a struct (padding) are never looked at, and may change.
  */
@@ -22,9 +36,32 @@
 #include <stddef.h>
 #include <stdint.h>
 
+#if !defined(__x86_64__) || defined(_WIN32)
+#error "lfa.h: the library is for x86-64 and the System V calling convention"
+#endif
+#if SIZE_MAX != UINT64_MAX
+#error "lfa.h: size_t has not 8 bytes"
+#endif
+
 #ifdef __cplusplus
 extern "C" {
 #endif
+
+/* The number of this boundary: it rises with every layout. lfa_abi gives the library's. */
+#define LFA_ABI 1
+
+/*
+ * Bytes of stack that a call takes at most, counted from the compiled code (host/c/stack): from its return address down, the red
+ * zone included. Arguments and answer lie in the caller's own frame; what memcpy and memset take beyond a red zone is on top.
+ */
+#define LFA_STACK_ABI 1024
+#define LFA_STACK_DESCRIBE 5120
+#define LFA_STACK_FRESH 9216
+#define LFA_STACK_STEP 17408
+#define LFA_STACK_LOG 1024
+#define LFA_STACK_READ_RECORD 1024
+#define LFA_STACK_PREPARED 1024
+#define LFA_STACK_STARTS 8192
 
 /* ---- Limits ---- */
 
@@ -82,6 +119,12 @@ enum lfa_code {
     LFA_CODE_BY_RESET = 12 /* done by reset; activate reports in together with may_reset only */
 };
 
+/* The outcomes of a log record that are no caller's part; every other is an enum lfa_caller. */
+enum lfa_outcome {
+    LFA_OUTCOME_RELEASED = 6, /* a report */
+    LFA_OUTCOME_NOTED = 7     /* an image */
+};
+
 /* The caller's part of an answer, as the log numbers outcomes. */
 enum lfa_caller {
     LFA_CALLER_NONE = 0,               /* a report or an image: there is no caller */
@@ -114,31 +157,33 @@ enum lfa_state {
 
 /*
  * The numbers of the refusals. The first that applies is given; for events that is 9, then 1, then 32 for an unknown kind or
- * the rest. A refusal comes with nothing else and changes nothing lent.
+ * the rest; for writing a board 22, then 26, 23, 24, 25, 27. A refusal is the whole answer, and all that was lent is as it was.
  *
- * 31: component over 31, version of 2^32 or more or, when writing, CPU over 63. Document 01's 26, 27 and 30 are never given
- * here: 26 and 27 belong to writing a board, which no function here does, and 33 comes before 30.
+ * 31: a component of 32 or more, a version over 32 bits or, in writing, a CPU of 64 or more.
  */
 enum lfa_refusal {
     LFA_REFUSAL_NONE = 0,             /* not refused */
-    LFA_REFUSAL_SHORT_TABLE = 1,      /* a resume table is shorter than the CPU count */
+    LFA_REFUSAL_SHORT_TABLE = 1,      /* a resume table has too few places for the board's CPUs */
     LFA_REFUSAL_NO_SUCH_CPU = 2,      /* call: no such CPU */
     LFA_REFUSAL_CPU_OFF = 3,          /* call: CPU off */
     LFA_REFUSAL_CPU_HELD = 4,         /* call: CPU held */
-    LFA_REFUSAL_NO_JOB = 5,           /* report: no job of that kind running for that component */
+    LFA_REFUSAL_NO_JOB = 5,           /* report: the component has no such job running */
     LFA_REFUSAL_CODE = 6,             /* report: code not allowed for it */
     LFA_REFUSAL_COMPONENT = 7,        /* image: no such or not capable component */
     LFA_REFUSAL_IN_USE = 8,           /* image: it is the state's component */
     LFA_REFUSAL_NOT_WELL_FORMED = 9,  /* record not well formed */
     LFA_REFUSAL_BOARD_TOO_SHORT = 20, /* board: too short (under 2 bytes too) */
     LFA_REFUSAL_BOARD_TOO_LONG = 21,  /* board: too long */
-    LFA_REFUSAL_RESERVED_BIT = 22,    /* board: reserved bit set */
+    LFA_REFUSAL_RESERVED_BIT = 22,    /* board: reserved bit set; writing a board: a flag that is neither 0 nor 1 */
     LFA_REFUSAL_RANGE = 23,           /* board: first > last */
     LFA_REFUSAL_BOTH_FLAGS = 24,      /* board: optional with may_reset */
     LFA_REFUSAL_UUID_TWICE = 25,      /* board: UUID twice */
+    LFA_REFUSAL_COUNT = 26,           /* writing a board: no, or too many, components or CPUs */
+    LFA_REFUSAL_NO_BOARD_ROOM = 27,   /* writing a board: no room for its bytes */
+    LFA_REFUSAL_LOG_TOO_SHORT = 30,   /* log: under 51 bytes left */
     LFA_REFUSAL_FIELD = 31,           /* log: unused field not 0, or a number too large for its field (above) */
     LFA_REFUSAL_UNKNOWN = 32,         /* log: kind, outcome or code unknown; event: kind unknown */
-    LFA_REFUSAL_LOG = 33,             /* log length no multiple of 51, over 1,024 records, or place past its end */
+    LFA_REFUSAL_LOG = 33,             /* log: part of a record, over 1,024 of them, or a place past the end */
     LFA_REFUSAL_NO_ROOM = 34          /* no room for 51 bytes */
 };
 
@@ -250,10 +295,31 @@ struct lfa_fresh {
     struct lfa_record rec; /* all 0 if refused */
 };
 
-/* The answer of lfa_log. */
+/* The answer of lfa_describe and lfa_log. */
 struct lfa_written {
-    uint64_t refusal; /* 0, or 31, 32, 34 */
-    size_t bytes;     /* 51, or 0 if refused */
+    uint64_t refusal; /* 0, or 22 to 27 for a board, or 31, 32, 34 for a log record */
+    size_t bytes;     /* the length of the board description, or 51; 0 if refused */
+};
+
+/* A log record. All that its kind does not name is 0. */
+struct lfa_log_record {
+    uint64_t kind;    /* an enum lfa_kind */
+    uint64_t cpu;     /* calls: the caller */
+    uint64_t code;    /* reports: the code, as struct lfa_report has it */
+    uint64_t outcome; /* calls: an enum lfa_caller; else an enum lfa_outcome */
+    uint64_t w1;      /* calls: X0 */
+    uint64_t w2;      /* calls: X1; reports and images: the component */
+    uint64_t w3;      /* calls: X2; images: the version */
+    uint64_t w4;      /* calls: X3 */
+    uint64_t w5;      /* calls: X4 */
+    uint64_t w6;      /* the X0 given, for LFA_CALLER_RETURNED and LFA_OUTCOME_RELEASED */
+};
+
+/* The answer of lfa_read_record. */
+struct lfa_read {
+    uint64_t refusal;             /* 0, or 30, 31, 32 */
+    size_t bytes;                 /* 51: the next record follows them; 0 if refused */
+    struct lfa_log_record record; /* all 0 if refused */
 };
 
 /* A component, or none. */
@@ -277,12 +343,46 @@ struct lfa_started {
     struct lfa_found started; /* none if refused */
 };
 
+/* The answer of lfa_abi. In C++ the word struct stays, since the function has the same name. */
+struct lfa_abi {
+    uint64_t number; /* the library's LFA_ABI */
+    uint64_t record; /* its bytes of struct lfa_record, */
+    uint64_t event;  /* of struct lfa_event, */
+    uint64_t answer; /* and of struct lfa_answer */
+};
+
+/* These sizes are the library's. C99 has no static assertion: where one differs, an array of -1 places does not compile. */
+#define LFA_SIZE(type, bytes) typedef char type##_has_the_size_of_the_library[sizeof(struct type) == (bytes) ? 1 : -1]
+LFA_SIZE(lfa_record, 2024);
+LFA_SIZE(lfa_event, 88);
+LFA_SIZE(lfa_answer, 80);
+
 /* ---- Functions ---- */
 
+/* What the library was built for. This function and its answer stay as they are, whatever LFA_ABI is. */
+struct lfa_abi lfa_abi(void);
+
+/* 1 where the library that is linked is the one that this header describes, else 0. */
+static inline int lfa_fits(void)
+{
+    struct lfa_abi a = lfa_abi();
+    return a.number == LFA_ABI && a.record == sizeof(struct lfa_record) && a.event == sizeof(struct lfa_event)
+        && a.answer == sizeof(struct lfa_answer);
+}
+
 /*
- * The record of a board that was just switched on: CPU 0 on, the others off, nothing pending, idle. board is the packed
- * description: count of components less 1 (5 bits), of CPUs less 1 (6), zero (5), first (64), last (64); then per component
- * UUID bytes, capable, may_reset, optional (1 each), zero (5), SVN (32); most significant bit first.
+ * Writes a board description at the start of buf, LFA_BOARD_BYTES of its components; bytes not written stay. What lies past the
+ * count of components is not looked at; where that is over 32, the flags of all 32 are, since 22 comes before 26.
+ *
+ * The description, most significant bit first: 5 bits for the components less 1, 6 for the CPUs less 1, 5 zeros, 64 each for the
+ * first and the last address; then for each component its 16 bytes of UUID, a bit each for capable, may_reset and optional, 5
+ * zeros, and 32 bits for the SVN.
+ */
+struct lfa_written lfa_describe(uint8_t *buf, size_t buf_length, struct lfa_board board);
+
+/*
+ * The record of a board that was just switched on: CPU 0 on, the others off, nothing pending, idle. board is the description that
+ * lfa_describe writes.
  */
 struct lfa_fresh lfa_fresh(const uint8_t *board, size_t board_length);
 
@@ -304,6 +404,9 @@ struct lfa_answer lfa_step(struct lfa_record *rec, struct lfa_event e, uint64_t 
  * gives an X0 that is not 0; and 34 where buf is shorter than 51 bytes.
  */
 struct lfa_written lfa_log(uint8_t *buf, size_t buf_length, struct lfa_event e, struct lfa_answer a);
+
+/* Reads the log record at the start of log, whatever follows it: 30 where there are under 51 bytes, then 32, then 31. */
+struct lfa_read lfa_read_record(const uint8_t *log, size_t log_length);
 
 /*
  * Which component is prepared at a place of a log: after that many of its records. 33 where the bytes are no log or the place

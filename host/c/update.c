@@ -1,141 +1,136 @@
-/* The update of two CPUs through the library, logged, with one line for each event; then two questions to the log. */
+/*
+ * The update of two CPUs through the monitor of monitor.c, with a platform that prints: a line for each event, what CPUs and jobs
+ * were told, and the state after it. Then the log read back, two questions to it, and what happens when it is full.
+ */
 #include <inttypes.h>
 #include <stdio.h>
 
-#include "../lfa.h"
+#include "monitor.h"
 
-enum { COMPONENTS = 2, CPUS = 2, EVENTS = 8, UPDATED = 1 };
+enum { EVENTS = 9, UPDATED = 1 };
 
 /* The event that starts the activation, and its place in the log: one event before it is refused, so not logged. */
 enum { LAST_ARRIVAL = 6, LAST_ARRIVAL_PLACE = 5 };
 
-/* All that the host lends. */
-struct host {
-    struct lfa_record rec;
-    uint64_t entries[CPUS], contexts[CPUS];
-    uint8_t board[LFA_BOARD_BYTES(COMPONENTS)];
-    uint8_t log[EVENTS * LFA_LOG_RECORD_BYTES];
-    size_t used;
-};
-
-/* An event, with the answer and the state after it that it must have. */
-struct expected {
+/* What the monitor is told, in words. */
+struct named {
     const char *name;
-    uint64_t refusal, caller, state;
     struct lfa_event event;
 };
 
 static const char *const STATES[] = {"idle", "preparing", "half-prepared", "ready", "gathering",
                                      "together", "alone", "half-activated", "dead"};
-static const char *const CALLERS[] = {"no caller", "returned", "held", "prime started", "activation started", "gone"};
 
-static const struct expected UPDATE[EVENTS] = {
-    {"CPU 0 calls CPU_ON of CPU 1", 0, LFA_CALLER_RETURNED, LFA_STATE_IDLE,
-     {.kind = LFA_KIND_CALL, .call = {.cpu = 0, .x0 = LFA_FUNCTION_CPU_ON, .x1 = 1, .x2 = 0x1000, .x3 = 0xC1}}},
-    {"image of component 1 arrives", 0, LFA_CALLER_NONE, LFA_STATE_IDLE,
-     {.kind = LFA_KIND_IMAGE, .image = {.component = UPDATED, .version = 5}}},
-    {"CPU 0 calls PRIME", 0, LFA_CALLER_PRIME_STARTED, LFA_STATE_PREPARING,
-     {.kind = LFA_KIND_CALL, .call = {.cpu = 0, .x0 = LFA_FUNCTION_PRIME, .x1 = UPDATED}}},
-    {"prime is done", 0, LFA_CALLER_NONE, LFA_STATE_READY,
-     {.kind = LFA_KIND_PRIME_REPORT, .report = {.component = UPDATED, .code = LFA_CODE_DONE}}},
-    {"CPU 0 calls ACTIVATE", 0, LFA_CALLER_HELD, LFA_STATE_GATHERING,
-     {.kind = LFA_KIND_CALL, .call = {.cpu = 0, .x0 = LFA_FUNCTION_ACTIVATE, .x1 = UPDATED, .x3 = 0x1100, .x4 = 0xA0}}},
-    {"CPU 0 calls VERSION", LFA_REFUSAL_CPU_HELD, LFA_CALLER_NONE, LFA_STATE_GATHERING,
-     {.kind = LFA_KIND_CALL, .call = {.cpu = 0, .x0 = LFA_FUNCTION_VERSION}}},
-    {"CPU 1 calls ACTIVATE", 0, LFA_CALLER_ACTIVATION_STARTED, LFA_STATE_TOGETHER,
-     {.kind = LFA_KIND_CALL, .call = {.cpu = 1, .x0 = LFA_FUNCTION_ACTIVATE, .x1 = UPDATED, .x3 = 0x1200, .x4 = 0xB1}}},
-    {"activation is done by reset", 0, LFA_CALLER_NONE, LFA_STATE_IDLE,
-     {.kind = LFA_KIND_ACTIVATE_REPORT, .report = {.component = UPDATED, .code = LFA_CODE_BY_RESET}}},
+/* Both components are capable, and the one to update may reset. */
+static const struct lfa_board BOARD = {
+    .components = 2,
+    .cpus = 2,
+    .first = 0x1000,
+    .last = 0x1FFF,
+    .component = {{.uuid = {0xA0}, .svn = 5, .capable = 1}, {.uuid = {0xA1}, .svn = 5, .capable = 1, .may_reset = 1}},
 };
 
-static int surprise(const char *where)
+static const struct named UPDATE[EVENTS] = {
+    {"CPU 0 calls CPU_ON of CPU 1",
+     {.kind = LFA_KIND_CALL, .call = {.cpu = 0, .x0 = LFA_FUNCTION_CPU_ON, .x1 = 1, .x2 = 0x1000, .x3 = 0xC1}}},
+    {"image of component 1 arrives", {.kind = LFA_KIND_IMAGE, .image = {.component = UPDATED, .version = 5}}},
+    {"CPU 0 calls PRIME", {.kind = LFA_KIND_CALL, .call = {.cpu = 0, .x0 = LFA_FUNCTION_PRIME, .x1 = UPDATED}}},
+    {"prime is done", {.kind = LFA_KIND_PRIME_REPORT, .report = {.component = UPDATED, .code = LFA_CODE_DONE}}},
+    {"CPU 0 calls ACTIVATE",
+     {.kind = LFA_KIND_CALL, .call = {.cpu = 0, .x0 = LFA_FUNCTION_ACTIVATE, .x1 = UPDATED, .x3 = 0x1100, .x4 = 0xA0}}},
+    {"CPU 0 calls VERSION", {.kind = LFA_KIND_CALL, .call = {.cpu = 0, .x0 = LFA_FUNCTION_VERSION}}},
+    {"CPU 1 calls ACTIVATE",
+     {.kind = LFA_KIND_CALL, .call = {.cpu = 1, .x0 = LFA_FUNCTION_ACTIVATE, .x1 = UPDATED, .x3 = 0x1200, .x4 = 0xB1}}},
+    {"activation is done by reset",
+     {.kind = LFA_KIND_ACTIVATE_REPORT, .report = {.component = UPDATED, .code = LFA_CODE_BY_RESET}}},
+    {"CPU 1 calls CPU_OFF", {.kind = LFA_KIND_CALL, .call = {.cpu = 1, .x0 = LFA_FUNCTION_CPU_OFF}}},
+};
+
+/* ---- A platform that prints ---- */
+
+void platform_return(uint64_t cpu, struct lfa_registers x)
 {
-    printf("surprise: %s\n", where);
+    printf(" CPU %" PRIu64 " goes on with X0 = %" PRIu64 ", X1 = %" PRIu64 ";", cpu, x.x0, x.x1);
+}
+
+void platform_resume(uint64_t cpu, uint64_t entry, uint64_t context)
+{
+    printf(" CPU %" PRIu64 " resumes at 0x%" PRIx64 " with 0x%" PRIx64 ";", cpu, entry, context);
+}
+
+void platform_hold(uint64_t cpu)
+{
+    printf(" CPU %" PRIu64 " is held;", cpu);
+}
+
+void platform_switch_off(uint64_t cpu)
+{
+    printf(" CPU %" PRIu64 " is switched off;", cpu);
+}
+
+void platform_prime(uint64_t component)
+{
+    printf(" prime of component %" PRIu64 " starts;", component);
+}
+
+void platform_activate(uint64_t component)
+{
+    printf(" activation of component %" PRIu64 " starts;", component);
+}
+
+/* ---- The run ---- */
+
+static void run(struct monitor *m, const struct named *n)
+{
+    printf("%s:", n->name);
+    uint64_t refusal = monitor_handle(m, &n->event);
+    if (refusal != LFA_REFUSAL_NONE) printf(" refused %" PRIu64 ";", refusal);
+    printf(" %s\n", STATES[m->rec.state]);
+}
+
+/* The log, record by record; 1 where all of it reads. */
+static int read_back(const struct monitor *m)
+{
+    size_t at = 0;
+    while (at < m->logged) {
+        struct lfa_read r = lfa_read_record(m->log + at, m->logged - at);
+        if (r.refusal != LFA_REFUSAL_NONE) return 0;
+        printf("record %zu: kind %" PRIu64 ", CPU %" PRIu64 ", code %" PRIu64 ", outcome %" PRIu64, at / LFA_LOG_RECORD_BYTES,
+               r.record.kind, r.record.cpu, r.record.code, r.record.outcome);
+        printf(", words %" PRIx64 " %" PRIx64 " %" PRIx64 " %" PRIx64 " %" PRIx64 " %" PRIx64 "\n", r.record.w1, r.record.w2,
+               r.record.w3, r.record.w4, r.record.w5, r.record.w6);
+        at += r.bytes;
+    }
     return 1;
 }
 
-/* The lowest bytes of a number, most significant first; gives the place after them. */
-static uint8_t *put(uint8_t *at, int bytes, uint64_t number)
-{
-    while (bytes-- > 0) *at++ = (uint8_t)(number >> (8 * bytes));
-    return at;
-}
-
-/* Both components are capable, and the one to update may reset; its number is its UUID. */
-static void pack_board(uint8_t *at)
-{
-    at = put(at, 2, (COMPONENTS - 1) << 11 | (CPUS - 1) << 5);
-    at = put(put(at, 8, 0x1000), 8, 0x1FFF);
-    for (uint64_t i = 0; i < COMPONENTS; i++) {
-        at = put(put(at, 8, 0), 8, i);
-        at = put(put(at, 1, i == UPDATED ? 0xC0 : 0x80), 4, 5);
-    }
-}
-
-static void print_released(const struct host *h, struct lfa_answer a, unsigned cpu)
-{
-    if (a.release == LFA_RELEASE_BY_ENTRY)
-        printf("; CPU %u resumes at 0x%" PRIx64 " with 0x%" PRIx64, cpu, h->entries[cpu], h->contexts[cpu]);
-    else
-        printf("; CPU %u is released with X0 = %" PRIu64 ", X1 = %" PRIu64, cpu, a.freed.x0, a.freed.x1);
-}
-
-static void print_answer(const struct host *h, struct lfa_answer a)
-{
-    printf("%s", CALLERS[a.caller]);
-    if (a.caller == LFA_CALLER_RETURNED) printf(" X0 = %" PRIu64, a.returned.x0);
-    for (unsigned cpu = 0; cpu < CPUS; cpu++)
-        if (a.freed.cpus.bits >> cpu & 1) print_released(h, a, cpu);
-    printf("; %s\n", STATES[h->rec.state]);
-}
-
-/* The log grows by one record. */
-static int write_log(struct host *h, struct lfa_event e, struct lfa_answer a)
-{
-    struct lfa_written w = lfa_log(h->log + h->used, sizeof h->log - h->used, e, a);
-    h->used += w.bytes;
-    return w.bytes == LFA_LOG_RECORD_BYTES ? 0 : surprise("not logged");
-}
-
-/* One event through the library and, where it is accepted, into the log. */
-static int run(struct host *h, const struct expected *x)
-{
-    struct lfa_answer a = lfa_step(&h->rec, x->event, h->entries, CPUS, h->contexts, CPUS);
-    if (a.refusal != x->refusal || a.caller != x->caller || h->rec.state != x->state) return surprise(x->name);
-    printf("%s: ", x->name);
-    if (a.refusal != 0) {
-        printf("refused %" PRIu64 "\n", a.refusal);
-        return 0;
-    }
-    print_answer(h, a);
-    return write_log(h, x->event, a);
-}
-
-static int is_updated(uint64_t refusal, struct lfa_found f)
-{
-    return refusal == 0 && f.found == 1 && f.component == UPDATED;
-}
-
-/* From the log alone: what is prepared before the last CPU arrives, and what its call starts. */
-static int ask(const struct host *h)
+/* From the log alone: what is prepared before the last CPU arrives, and what its call starts; 1 where both say the updated one. */
+static int ask(const struct monitor *m)
 {
     size_t k = LAST_ARRIVAL_PLACE;
-    struct lfa_prepared p = lfa_prepared(h->log, h->used, k);
-    struct lfa_started s = lfa_starts(h->board, sizeof h->board, h->log, h->used, k, UPDATE[LAST_ARRIVAL].event.call);
-    if (!is_updated(p.refusal, p.prepared) || !is_updated(s.refusal, s.started)) return surprise("the questions");
+    struct lfa_prepared p = lfa_prepared(m->log, m->logged, k);
+    struct lfa_started s = lfa_starts(m->board, m->board_length, m->log, m->logged, k, UPDATE[LAST_ARRIVAL].event.call);
     printf("place %zu: component %" PRIu64 " is prepared, looked at %zu records\n", k, p.prepared.component, p.looked);
     printf("place %zu: the call of CPU 1 starts component %" PRIu64 "\n", k, s.started.component);
-    return 0;
+    return p.refusal == LFA_REFUSAL_NONE && p.prepared.found && s.refusal == LFA_REFUSAL_NONE && s.started.found;
+}
+
+/* Images arrive until one is not taken. */
+static void fill(struct monitor *m)
+{
+    struct lfa_event image = {.kind = LFA_KIND_IMAGE, .image = {.component = UPDATED, .version = 6}};
+    uint64_t refusal = LFA_REFUSAL_NONE;
+    for (size_t i = 0; i < LFA_MOST_LOG_RECORDS && refusal == LFA_REFUSAL_NONE; i++) refusal = monitor_handle(m, &image);
+    printf("after %zu records an image is refused %" PRIu64 "\n", m->logged / LFA_LOG_RECORD_BYTES, refusal);
 }
 
 int main(void)
 {
-    static struct host h;
-    pack_board(h.board);
-    struct lfa_fresh fresh = lfa_fresh(h.board, sizeof h.board);
-    if (fresh.refusal != 0) return surprise("the board");
-    h.rec = fresh.rec;
-    for (size_t i = 0; i < EVENTS; i++)
-        if (run(&h, &UPDATE[i]) != 0) return 1;
-    return ask(&h);
+    static struct monitor m;
+    if (monitor_start(&m, &BOARD) != LFA_REFUSAL_NONE) return 1;
+    printf("board: a description of %zu bytes\n", m.board_length);
+    for (size_t i = 0; i < EVENTS; i++) run(&m, &UPDATE[i]);
+    int answered = read_back(&m) && ask(&m);
+    fill(&m);
+    return answered ? 0 : 1;
 }

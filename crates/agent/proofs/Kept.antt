@@ -1,4 +1,4 @@
--- Every step keeps a well-formed record well formed. Assumes nothing.
+-- Every step keeps a well-formed record well formed: move by move, clause by clause, from the facts where it is decided. Assumes nothing.
 use Prim.Native.Nat.{ℕ, _<_, _≤_}
 use mathlib.Core.Path.{_≡_, refl, sym, ap, subst, _∙_}
 use mathlib.Core.Bool.{Bool, true, false, _&&_}

@@ -1,4 +1,5 @@
--- What keeps the clauses of a well-formed record, each by itself: the held CPUs, the tables, and the state. Assumes nothing.
+-- What keeps each clause of a well-formed record: the held CPUs by how they are held, tables place by place, the state by a report's code.
+-- Assumes nothing.
 use Prim.Native.Nat.{ℕ, _<_}
 use mathlib.Core.Path.{_≡_, refl}
 use mathlib.Core.Bool.{Bool, true, false, _&&_}

@@ -1,4 +1,4 @@
--- What an event answers in document 01's numbers: its move's, and by the table of refusals. Assumes nothing.
+-- What an event answers in document 01's numbers: move by move what the move's own numbers say, and these go by the table. Assumes nothing.
 use Prim.Native.Nat.{ℕ}
 use mathlib.Core.Path.{_≡_, refl, sym, _∙_}
 use mathlib.Core.Bool.{Bool, true, false}

@@ -1,5 +1,5 @@
--- A refused event changes nothing, refusal 9 comes only to a record that is not well formed, and how long the tables are
--- matters only up to the CPU count. Assumes nothing.
+-- A refused event changes nothing, and 9 comes only where the record is not well formed: only `Refuse` refuses, and its facts say so.
+-- How long the tables are matters only up to the CPU count, since two tests against it are all that asks. Assumes nothing.
 use Prim.Native.Nat.{ℕ, _≤_}
 use mathlib.Core.Path.{_≡_, refl, ap, subst}
 use mathlib.Core.Bool.{true}

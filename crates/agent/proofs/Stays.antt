@@ -1,4 +1,5 @@
--- What no event changes: the board, and the powered CPUs where power calls are frozen. Assumes nothing.
+-- No event changes the board, nor the powered CPUs where power calls are frozen: move by move; the facts of both power moves say free.
+-- Assumes nothing.
 use Prim.Native.Nat.{ℕ}
 use mathlib.Core.Path.{_≡_, refl, _∙_}
 use mathlib.Core.List.{List, [], _∷_}

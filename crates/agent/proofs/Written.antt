@@ -1,4 +1,4 @@
--- How a loop writes a table at the places that a test says, and what the table then holds. Assumes nothing.
+-- How a loop writes a table at the places that a test says, and what it then holds: by induction on the places looked at. Assumes nothing.
 use Prim.Native.Nat.{ℕ, zero, suc, _+_, _<_, _≤_, min}
 use mathlib.Core.Path.{_≡_, refl, sym, _∙_}
 use mathlib.Core.Bool.{Bool, true, false}

@@ -143,13 +143,13 @@ skips code = ready 1 ++ call 0 activateNumber 1 1 0 0 ∷ activated 1 code ∷ [
 unfoldable pub examples : List Bool
 unfolding allBelow firsts bit tally room hasOf noneOf onlyOf unionOf lessOf belowOf sameOf countOf numberedOf goodEntry withinLimit judgedOf writableOf boardStands freshOf poweredStand imageStands imagesStand subjectStands stateStands heldStand entryStands entriesStand workStands restStands wellFormed minusOf isCapable decodeOf returned featuresOf infoOf lowestFirst describedOf inventoryOf arrivalOf mayPrime tryPrimeOf trySameOf skipRight fieldsRight entryRight joinOf tryActivateOf cancelOf offFree onOf answerOf callOf isPrimeCode isActivateCode activateAllows primeReportOf activateReportOf imageOf decideOf refusedOf acceptedOf informedOf joinedOf settledOf poweredOf reportedOf afterPrime afterActivate imagedOf isDone endedOf releasedOf stepOf
 examples =
-    -- P unknown number 0xC40002E7: -1. P FEATURES of 0x84000002: -1
+    -- Bench 1 and 2: a word that names no function, and FEATURES of one of PSCI's
     says [] (call 0 0xC40002E7 0 0 0 0) (2 ^ 64 - 1)
     ∷ says [] (call 0 featuresNumber offNumber 0 0 0) (2 ^ 64 - 1)
     ∷ says [] (call 0 versionNumber 0 0 0 0) 65536
-    -- P UUID bytes 00..0f: X1 = 0x0706050403020100
+    -- Bench 3: the first word of a UUID
     ∷ same (gives (info ∷ []) (inventory 0)) (0x0706050403020100 ∷ 5 ∷ [])
-    -- P inventory before GET_INFO, id too large: -7; after it: -8
+    -- Bench 4: GET_INVENTORY of too large an id, without GET_INFO and with it
     ∷ says [] (inventory 99) (2 ^ 64 - 7)
     ∷ says (info ∷ []) (inventory 99) (2 ^ 64 - 8)
     -- flags: capable, pending and optional
@@ -158,27 +158,27 @@ examples =
     ∷ says [] (prime 99) (2 ^ 64 - 7)
     ∷ says [] (prime 2) (2 ^ 64 - 7)
     ∷ says [] (prime 1) (2 ^ 64 - 7)
-    -- the function number is the low 32 bits of X0; other arguments are compared whole
+    -- Calls 1 and 3: the upper half of X0 doesn't count, that of X1 to X4 does
     ∷ says [] (call 0 (2 ^ 32 + versionNumber) 0 0 0 0) 65536
     ∷ says (ready 1) (call 0 cancelNumber (2 ^ 32 + 1) 0 0 0) (2 ^ 64 - 8)
     ∷ says (ready 1) (call 0 activateNumber 1 (2 ^ 32) 0 0) (2 ^ 64 - 8)
     ∷ says [] (switchOn 0 (2 ^ 32 + 1)) (2 ^ 64 - 2)
-    -- P version 4, SVN 5: -3; version 5: starts
+    -- Bench 5: an image one below the SVN, and one at it
     ∷ says (image 1 4 ∷ []) (prime 1) (2 ^ 64 - 3)
     ∷ same (answer (image 1 5 ∷ []) (prime 1)) (3 ∷ [])
-    -- P one CPU on: its ACTIVATE starts. P two on: held, then starts
+    -- Bench 6 and 7: ACTIVATE by the only CPU, and by both of two
     ∷ same (answer (ready 0) (activate 0 0)) (4 ∷ [])
     ∷ same (answer (switchOn 0 2 ∷ ready 0) (activate 0 0)) (2 ∷ [])
     ∷ same (answer (switchOn 0 2 ∷ ready 0 ++ activate 0 0 ∷ []) (activate 2 0)) (4 ∷ [])
-    -- P CPU_ON, off target and good entry, in gathering: -6, powered set as before
+    -- Bench 8: CPU_ON in gathering
     ∷ says (switchOn 0 2 ∷ ready 0 ++ activate 0 0 ∷ []) (switchOn 2 3) (2 ^ 64 - 6)
     ∷ sameOf (after (freshOf board) (switchOn 0 2 ∷ ready 0 ++ activate 0 0 ∷ switchOn 2 3 ∷ []) .on) (unionOf (onlyOf 0) (onlyOf 2))
-    -- P CANCEL of id 99 in idle: 0; in ready for 1: -8
+    -- Bench 9: CANCEL of 99 in idle and in ready
     ∷ says [] (call 0 cancelNumber 99 0 0 0) 0
     ∷ says (ready 1) (call 0 cancelNumber 99 0 0 0) (2 ^ 64 - 8)
-    -- P code 1 in together: 6
+    -- Bench 10: call again in together
     ∷ refuses (ready 0 ++ activate 0 0 ∷ []) (activated 0 1) 6
-    -- postponed (code 2), then one of two CPUs calls: held
+    -- Bench 16: one of two CPUs after a postponement
     ∷ same (answer (switchOn 0 2 ∷ ready 0 ++ activate 0 0 ∷ activate 2 0 ∷ activated 0 2 ∷ []) (activate 0 0)) (2 ∷ [])
     -- where the reports lead: idle 0, half-prepared 2, ready 3, half-activated 7, dead 8
     ∷ leads (primes 0) 3

@@ -25,8 +25,7 @@ use Rattle.agent.specs.declared.Outcome.the-variants.{Refused, Accepted}
 use Rattle.agent.specs.declared.Release.{Release}
 use Rattle.agent.specs.declared.Release.the-variants as release
 
--- ---- "Caller's part: returned with X0 to X3 .., held, prime started, activation started, gone; reports and images have none": as
--- the log numbers outcomes, and 0 where there is none
+-- ---- the "Caller's part" (Events 4): as the log numbers outcomes, and 0 where there is none
 abbrev pub outcomeOf : Caller → ℕ
 outcomeOf caller.Nothing = 0
 outcomeOf (caller.Returned x) = returned
@@ -35,7 +34,7 @@ outcomeOf caller.PrimeStarted = primeStarted
 outcomeOf caller.ActivationStarted = activationStarted
 outcomeOf caller.Gone = gone
 
--- "X0 to X3 (unnamed ones are 0)"
+-- what is returned where no register is named
 abbrev pub noRegisters : Registers
 noRegisters = record { x0 = 0; x1 = 0; x2 = 0; x3 = 0 }
 
@@ -47,7 +46,7 @@ returnedOf caller.PrimeStarted = noRegisters
 returnedOf caller.ActivationStarted = noRegisters
 returnedOf caller.Gone = noRegisters
 
--- ---- "Release part: nobody, a set of CPUs with one X0 and X1, or a set that resumes by entry address": in that order from 0
+-- ---- the "Release part" (Events 5), its three cases from 0 on
 abbrev pub nobody : ℕ
 nobody = 0
 
@@ -71,7 +70,7 @@ freedBy release.Nobody = freedWith noneOf
 freedBy (release.Returned f) = f
 freedBy (release.Resumed s) = freedWith s
 
--- ---- "Besides a possible refusal, an answer has a caller's part and a release part"
+-- ---- the whole answer (Events 3)
 pub record Said : Type 0 where
   pub refusal : ℕ
   pub caller : ℕ
@@ -103,19 +102,19 @@ unfoldable pub releasedWith : ℕ → CpuSet → ℕ → ℕ → Said
 releasedWith release cpus x0 x1 =
     record { refusal = 0; caller = 0; returned = noRegisters; release = release; freed = record { cpus = cpus; x0 = x0; x1 = x1 } }
 
--- "12 resumes the held CPUs by entry"
+-- a reset's release (Reports 6)
 abbrev pub releaseFor : ℕ → ℕ
 releaseFor code = pick (eqb code byReset) byEntry withStatus
 
--- "Calls have outcomes 1 to 5", "reports and images have none": a report releases the held CPUs with the status that it says,
--- and an image nobody
+-- a call has one of its outcomes (Packed 8), and other events no caller (Events 4): a report releases the held CPUs with the
+-- status that it says, and an image nobody
 abbrev pub Parts : Record → Event → Said → Type 0
 Parts r (event.Call call) s = oneOf (s .caller) callOutcomes ≡ true
 Parts r (event.Prime p) s = s ≡ releasedWith withStatus (r .held) (primeStatus (p .code)) (againOf (p .code))
 Parts r (event.Activate p) s = s ≡ releasedWith (releaseFor (p .code)) (r .held) (activateStatus (p .code)) (againOf (p .code))
 Parts r (event.Image i) s = s ≡ releasedWith nobody noneOf 0 0
 
--- "The first that applies .. is given. It comes with nothing else"; 0 is no refusal, and then there are the parts
+-- "The first that applies" (Events 20) and nothing beside it; 0 is no refusal, and then there are the parts
 pub record Answers (r : Record) (e : Event) (entries contexts : ℕ) (s : Said) : Type 0 where
   pub refusal : s .refusal ≡ firstOf (eventRows r e entries contexts)
   pub nothing : (s .refusal ≡ 0 → ⊥) → s ≡ refusedWith (s .refusal)

@@ -32,7 +32,7 @@ use Rattle.agent.specs.declared.Stepped.{Stepped}
 unfoldable pub refusedOf : Record → Refusal → Stepped
 refusedOf r x = record { rec = r; outcome = Refused x }
 
--- "an answer has a caller's part and a release part"
+-- the two parts of an answer (Events 3)
 unfoldable pub acceptedOf : Record → Caller → Release → Stepped
 acceptedOf r who free = record { rec = r; outcome = Accepted (record { caller = who; release = free }) }
 
@@ -53,7 +53,7 @@ informedOf r noted = record {
   informed = noted;
 }
 
--- it "gives 0 and the component count and notes the call"
+-- what it returns, and that it is noted (Calls 6)
 abbrev pub noteInfoOf : Record → Stepped
 noteInfoOf r = acceptedOf (informedOf r true) (successOf (r .board .components)) release.Nobody
 
@@ -71,7 +71,7 @@ imagedOf r id pending version = record {
   informed = r .informed;
 }
 
--- "An accepted image makes its component pending with that version, in place of an older one"
+-- "An accepted image" (Events 2)
 abbrev pub noteImageOf : Record → Image → Stepped
 noteImageOf r i = acceptedOf (imagedOf r (i .component) true (i .version)) caller.Nothing release.Nobody
 
@@ -106,11 +106,11 @@ settledOf r s = record {
   informed = r .informed;
 }
 
--- "a set of CPUs with one X0 and X1"
+-- the second case of a release (Events 5)
 abbrev pub freedOf : CpuSet → ℕ → ℕ → Release
 freedOf cpus x0 x1 = release.Returned (record { cpus = cpus; x0 = x0; x1 = x1 })
 
--- ---- CANCEL: "From gathering, the held CPUs are released with X0 = -11, X1 = 0 (H)"
+-- ---- CANCEL: who waits "From gathering" gets -11 (Calls 28, H)
 abbrev pub cancelledOf : Record → Release
 cancelledOf r = pick (isGathering (r .state)) (freedOf (r .held) (minusOf 11) 0) release.Nobody
 
@@ -134,23 +134,23 @@ poweredOf r cpus = record {
 abbrev pub powerOffOf : Record → ℕ → Stepped
 powerOffOf r cpu = acceptedOf (poweredOf r (withoutOf (r .on) cpu)) caller.Gone release.Nobody
 
--- "0 and the target resumes"
+-- "the target resumes" (Calls 30)
 abbrev pub powerOnOf : Record → Waking → Stepped
 powerOnOf r w =
     acceptedOf (poweredOf r (withOf (r .on) (w .target))) (successOf 0) (release.Resumed (onlyOf (w .target)))
 
--- ---- reports: "The held CPUs are released with that status and X1 = 0, or with X0 = 0 and X1 = 1 for code 1"
+-- ---- reports: with what the held CPUs are released (Reports 2)
 unfoldable pub reportedOf : CpuSet → ℕ → Release
 reportedOf held code = pick (eqb code 1) (freedOf held 0 1) (freedOf held (minusOf code) 0)
 
--- "Prime allows 0 (ready), 1 (half-prepared), 3, 4, 6, 11 (idle)"
+-- the state after a prime report (Reports 3)
 unfoldable pub afterPrime : Report → State
 afterPrime p = pick (eqb (p .code) 0) (Ready (p .component)) (pick (eqb (p .code) 1) (HalfPrepared (p .component)) Idle)
 
 abbrev pub endPrimeOf : Record → Report → Stepped
 endPrimeOf r p = acceptedOf (settledOf r (afterPrime p)) caller.Nothing (reportedOf (r .held) (p .code))
 
--- "Code 0 or 12: idle .. 1: half-activated. 2: ready. 5: dead .. Others: idle"
+-- the state after an activate report (Reports 5 and 7 to 10)
 unfoldable pub afterActivate : Report → State
 afterActivate p =
     pick (eqb (p .code) 1) (HalfActivated (p .component))
@@ -158,7 +158,7 @@ afterActivate p =
     (pick (eqb (p .code) 5) Dead
     Idle))
 
--- "Code 0 or 12: .. pending cleared, GET_INFO forgotten"; "A successful activation forgets the noted GET_INFO (H)"
+-- what a success forgets (Reports 5; Calls 8, H)
 unfoldable pub isDone : ℕ → Bool
 isDone code = eqb code 0 || eqb code byReset
 
@@ -169,7 +169,7 @@ unfoldable pub endedOf : Record → Report → Record
 endedOf r p =
     let next = settledOf r (afterActivate p) in pick (isDone (p .code)) (forgottenOf next (p .component)) next
 
--- "12 resumes the held CPUs by entry, each with its context id"
+-- a reset's release (Reports 6)
 unfoldable pub releasedOf : CpuSet → ℕ → Release
 releasedOf held code = pick (eqb code byReset) (release.Resumed held) (reportedOf held code)
 

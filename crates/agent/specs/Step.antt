@@ -26,7 +26,7 @@ use Rattle.agent.specs.declared.tables.Source.the-variants.{Own, Given}
 unfoldable pub stepOf : Record → Event → ℕ → ℕ → Stepped
 stepOf r e entryPlaces contextPlaces = performOf r (decideOf r e entryPlaces contextPlaces)
 
--- ---- "Resume addresses and context ids are written into two lent tables of 64-bit numbers at each resuming CPU's place"
+-- ---- the "two lent tables" (Events 6)
 
 abbrev pub resumedBy : Release → CpuSet
 resumedBy release.Nobody = noneOf
@@ -62,7 +62,7 @@ abbrev pub contextsFrom : Record → Source → List ℕ
 contextsFrom r Own = r .context
 contextsFrom r (Given w) = replicate mostCpus (w .context)
 
--- a table with the places below n that f says written; "every other place stays"
+-- a table with the places below n that f says written, and every other as it was
 unfoldable pub written : ℕ → (ℕ → Bool) → List ℕ → List ℕ → List ℕ
 written zero f from table = table
 written (suc n) f from table =

@@ -1,3 +1,4 @@
+-- Two outcomes that a promise allows are one, since each is what the promise names (`same`); of a walk, by its facts (`of-both`).
 -- A promise that leaves one outcome: any two results, with any two last values of what the function was lent, that its
 -- generated contract allows for the same arguments are equal; parts of a lent buffer, up to their ghost names. Each crate's
 -- proofs/Pinned.antt says so of its public functions. Assumes nothing.

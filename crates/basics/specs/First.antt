@@ -1,4 +1,4 @@
--- A table of numbers, each with its test: "The first that applies, downwards and left to right, is given". Assumes nothing.
+-- A table of numbers, each with its test, as document 01's of refusals ("The first that applies", Events 20). Assumes nothing.
 use Prim.Native.Nat.{ℕ}
 use mathlib.Core.Bool.{Bool}
 use mathlib.Core.List.{List, [], _∷_}

@@ -1,5 +1,5 @@
 // The files that the arguments name.
-use crate::words::text;
+use crate::words::failure;
 ghost use Rattle.io.specs.Counts.{Counts};
 ghost use Rattle.bench.specs.Files.{IsIn};
 
@@ -16,9 +16,9 @@ fn is_at_end(fd: i32) -> bool {
 }
 
 fn say_unread(name: &[u8]) {
-    text(b"cannot read ");
-    text(name);
-    text(b"\n");
+    failure(b"cannot read ");
+    failure(name);
+    failure(b"\n");
 }
 
 // Puts the name that argument i gives in a buffer, and answers how much of it there is: all that fits where it is too long,

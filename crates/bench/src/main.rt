@@ -5,15 +5,17 @@ mod words;
 ghost use mathlib.Core.Path.{_≡_};
 ghost use Rattle.board.specs.Packed.{readOf};
 ghost use Rattle.board.specs.declared.Verdict.the-variants as verdict;
-ghost use Rattle.logbook.specs.Log.{checkedOf};
+ghost use Rattle.logbook.specs.Log.{checkedOf, recordAt, said};
 ghost use Rattle.logbook.specs.declared.Checked.the-variants.{Records, Refused};
 ghost use Rattle.trace.specs.Turn.{turnAt};
 use board::Board;
 use board::Verdict;
 use files::File;
+use log_record::LogRecord;
 use logbook::Checked;
 use logbook::Flaw;
 use trace::Turn;
+use words::failure;
 use words::number;
 use words::text;
 
@@ -22,14 +24,16 @@ const BOARD_ROOM: usize = board::MOST_BYTES + 1;
 
 const LOG_ROOM: usize = logbook::MOST_BYTES + 1;
 
-// The line of record k.
-fn line(b: Board, log: &[u8], k: usize, t: Turn)
-    requires { ⌜ t ≡ turnAt b (now log) k ⌝ }
+// The line of record k; where the record holds something else than the agent's answer, with that at the end.
+fn line(b: Board, log: &[u8], k: usize, r: LogRecord, t: Turn)
+    requires { ⌜ (r ≡ said (recordAt (now log) k)) × (t ≡ turnAt b (now log) k) ⌝ }
 {
     let replayed = t.replayed;
     let agent = t.agent;
     let reader = t.reader;
     number(k as u64);
+    text(b" ");
+    words::event(r);
     text(b" ");
     words::replayed(replayed);
     text(b" ");
@@ -37,7 +41,8 @@ fn line(b: Board, log: &[u8], k: usize, t: Turn)
     text(b" ");
     words::started(reader);
     if t.differs {
-        text(b" differs");
+        text(b" differs: ");
+        words::logged(r);
     }
     text(b"\n");
 }
@@ -46,14 +51,14 @@ fn line(b: Board, log: &[u8], k: usize, t: Turn)
 fn lines(board: &[u8], b: Board, log: &[u8], n: usize)
     requires { ⌜ (b ≡ readOf (now board) .board) × (checkedOf (now log) 0 ≡ Records n) ⌝ }
 {
-    text(b"place outcome word6 agent reader\n");
+    text(b"place cpu event arg1 arg2 outcome word6 agent reader\n");
     let mut rec = board_record::fresh(b);
     let mut story = reader::opening();
     let mut k: usize = 0;
     while k < n {
         let r = logbook::said_at(log, k);
         let t = trace::turned(rec, b, story, r);
-        line(b, log, k, t);
+        line(b, log, k, r, t);
         rec = t.rec;
         story = reader::told(story, r);
         k += 1;
@@ -96,7 +101,7 @@ fn bench(board: &[u8], log: &[u8]) {
 
 fn main() {
     if os::arg_count() != 3 {
-        text(b"usage: bench BOARD LOG\n");
+        failure(b"usage: bench BOARD LOG\n");
         return;
     }
     let mut board = [0u8; BOARD_ROOM];

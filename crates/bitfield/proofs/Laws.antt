@@ -1,4 +1,4 @@
--- The laws of a field's value and of writing. Assumes nothing.
+-- The laws of a field's value, by induction on its width, bit by bit; and of writing, by where bytes are cut and joined. Assumes nothing.
 use Prim.Native.Nat.{ℕ, zero, suc, _+_, _-_, _*_, _/_, _%_, _^_, _≤_, _<_}
 use mathlib.Core.Path.{_≡_, refl, sym, ap, _∙_}
 use mathlib.Core.List.{List, [], _++_, append-assoc, append-nil}

@@ -1,4 +1,5 @@
--- Reading what was written, and writing what was read, once for every layout. Assumes nothing.
+-- Reading what was written, and writing what was read, for every layout: its values are one number's digits, and so are its bytes.
+-- Assumes nothing.
 use Prim.Native.Nat.{ℕ, zero, suc, _+_, _*_, _/_, _%_, _^_, _≤_, _<_}
 use mathlib.Core.Path.{_≡_, refl, sym, ap, _∙_}
 use mathlib.Core.List.{List, [], _∷_, _++_}

@@ -1,4 +1,5 @@
--- The cases of reading and of writing, each as a law that a proof cites. Assumes nothing.
+-- The cases of reading and of writing, each as a law: what is accepted passed each test, and what is written is its parts in a row.
+-- Assumes nothing.
 use Prim.Native.Nat.{ℕ, _+_, _-_, _*_, _<_, _≤_}
 use mathlib.Core.Path.{_≡_, refl, sym}
 use mathlib.Core.Bool.{Bool, true, false}

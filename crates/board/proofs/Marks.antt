@@ -1,4 +1,4 @@
--- What the marks of UUIDs tell: the same UUID has the same mark. Assumes nothing.
+-- The same UUID has the same mark, byte by byte; so where its mark was not met, a UUID was not either. Assumes nothing.
 use Prim.Native.Nat.{ℕ, zero, suc, _+_, _<_}
 use mathlib.Core.Path.{_≡_, refl, ap, _∙_}
 use mathlib.Core.Bool.{Bool, true, false, not}

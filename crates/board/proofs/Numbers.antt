@@ -1,4 +1,5 @@
--- The refusal of a reading and of a writing is the first of document 01's table that applies. Assumes nothing.
+-- The refusal of a reading or writing is the first of document 01's table that applies: case by case, up to the first test that fails.
+-- Assumes nothing.
 use Prim.Native.Nat.{ℕ}
 use mathlib.Core.Path.{_≡_, refl, ap, _∙_}
 use mathlib.Core.Bool.{Bool, true, false, not, _&&_}

@@ -1,4 +1,4 @@
--- Each public function's promise leaves one outcome. Assumes nothing.
+-- Each public function's promise leaves one outcome: any two that it allows are both what it names. Assumes nothing.
 use mathlib.Core.Path.{refl}
 use Rattle.basics.proofs.Pin.{OneBy, OneOutcome, OnePart, same, just, both}
 use Rattle.board.proofs.number.Kinds as number-kinds

@@ -1,4 +1,5 @@
--- A description that was written reads back, and bytes that read are those that writing gives. Assumes nothing.
+-- A description that was written reads back, and bytes that read are those that writing gives: the head and each tail by bitfield's round
+-- trip of a layout, each UUID byte by byte. Assumes nothing.
 use Prim.Native.Nat.{ℕ, _+_, _-_, _*_, _<_, _≤_}
 use mathlib.Core.Path.{_≡_, refl, sym, ap, ap₂, _∙_}
 use mathlib.Core.Bool.{true, not}

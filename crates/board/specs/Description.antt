@@ -14,7 +14,7 @@ use Rattle.board.specs.declared.Refusal.the-variants.{TooShort, TooLong,
 use Rattle.board.specs.declared.Ruling.{Ruling}
 use Rattle.board.specs.declared.Ruling.the-variants.{Kept, Broken}
 
--- 1 to 32 components, 1 to 64 CPUs, a 16-byte UUID
+-- the limits of both counts, and the bytes of a UUID (Board 1 and 2)
 abbrev pub mostComponents : ℕ
 mostComponents = 32
 
@@ -60,7 +60,7 @@ sameAt u v k = eqb (getD u k 0) (getD v k 0)
 abbrev pub sameUuid : List ℕ → List ℕ → Bool
 sameUuid u v = allBelow uuidBytes (sameAt u v)
 
--- "all places past a count are 0"
+-- blank "past a count" (Board 5)
 abbrev pub isBlank : Component → Bool
 isBlank c =
     sameUuid (c .uuid) (blank .uuid) && (not (c .capable) && (not (c .«may_reset») && (not (c .optional) && eqb (c .svn) 0)))
@@ -68,11 +68,11 @@ isBlank c =
 abbrev pub blankPast : Board → Bool
 blankPast b = allBelow (mostComponents - b .components) (λ j. isBlank (componentOf b (b .components + j)))
 
--- "a multiple of 4 in the range", both ends inside
+-- "a multiple of 4" (Calls 22), from the first address to the last
 unfoldable pub goodEntry : ℕ → ℕ → ℕ → Bool
 goodEntry first last entry = eqb (entry % 4) 0 && (leb first entry && leb entry last)
 
--- "with may_reset, X3 is a good entry", and ACTIVATE's "with may_reset, -10 unless .. (H)"; without it any is right
+-- what ACTIVATE asks of X3 (Calls 22, H) and the log's reader too (Packed 15); without may_reset any is right
 unfoldable pub entryRight : Board → ℕ → ℕ → Bool
 entryRight b id entry = pick (mayReset b id) (goodEntry (b .first) (b .last) entry) true
 
@@ -82,7 +82,7 @@ entryRight b id entry = pick (mayReset b id) (goodEntry (b .first) (b .last) ent
 abbrev pub unless : {A : Type 0} → Bool → A → A → A
 unless ok refused next = pick ok next refused
 
--- 26: a count outside its limits
+-- 26: both counts
 unfoldable pub withinLimit : ℕ → ℕ → Bool
 withinLimit n most = leb 1 n && leb n most
 
@@ -116,7 +116,7 @@ unseen cs i = allBelow i (unlike cs i)
 abbrev pub distinct : Board → Bool
 distinct b = allBelow (b .components) (unseen (b .component))
 
--- 23, 24, 25: first > last; optional with may_reset; UUID twice
+-- 23, 24, 25: the range, then the flags, then the UUIDs
 unfoldable pub judgedOf : Board → Ruling
 judgedOf b =
     unless (leb (b .first) (b .last)) (Broken FirstAboveLast)

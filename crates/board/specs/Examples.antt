@@ -47,7 +47,7 @@ writing room b = by (putOf room b)
 unfoldable pub examples : List Bool
 unfolding allBelow firsts inTurn bitAt valueAt bytes put join withinLimit judgedOf componentAt boardAt reservedClear shapeOf readOf headBytes componentBytes bytesOf writableOf putOf
 examples =
-    -- P 2 components, 4 CPUs: board opens 08 60, length 60
+    -- Bench 13: a board's first bytes and its length
     eqb (getD (bytesOf two) 0 0) 0x08
     ∷ eqb (getD (bytesOf two) 1 0) 0x60
     ∷ eqb (length (bytesOf two)) 60

@@ -22,11 +22,11 @@ abbrev pub refusalIn : Written → ℕ
 refusalIn (Bytes n) = 0
 refusalIn (Nothing x) = numberOf x
 
--- | 23, 24, 25 | board: .. first > last; optional with may_reset; UUID twice |
+-- what a description itself is refused for (Events 15)
 abbrev pub boardRows : Board → List Row
 boardRows b = (23, not (leb (b .first) (b .last))) ∷ (24, not (apart b)) ∷ (25, not (distinct b)) ∷ []
 
--- | 20, 21 | board: too short (under 2 bytes too); too long |, | 22, .. | board: reserved bit set; .. |
+-- before that its bytes (Events 14 and 15)
 abbrev pub readRows : List ℕ → List Row
 readRows s =
     (20, not (leb 2 (length s) && leb (lengthOf (componentsIn s)) (length s)))
@@ -34,6 +34,6 @@ readRows s =
     ∷ (22, not (reservedClear s (componentsIn s)))
     ∷ boardRows (boardAt s)
 
--- | 26, 27 | writing a board: a count outside its limits; no room for its bytes |: "26, 23, 24, 25, 27"
+-- the writer's own (Events 19), first and last (Events 22)
 abbrev pub putRows : ℕ → Board → List Row
 putRows room b = (26, not (countsOf b)) ∷ (boardRows b ++ (27, ltb room (lengthOf (b .components))) ∷ [])

@@ -24,11 +24,11 @@ use Rattle.board.specs.declared.ReadBoard.{ReadBoard}
 use Rattle.board.specs.declared.Written.{Written}
 use Rattle.board.specs.declared.Written.the-variants.{Bytes, Nothing}
 
--- "count of components less 1 (5 bits), of CPUs less 1 (6), zero (5), first (64), last (64)"
+-- the head (Packed 1): both counts less 1, zero, and the two ends of the range
 abbrev pub headWidths : List ℕ
 headWidths = 5 ∷ 6 ∷ 5 ∷ 64 ∷ 64 ∷ []
 
--- "then per component UUID bytes, capable, may_reset, optional (1 each), zero (5), SVN (32)": what follows the UUID
+-- "then per component" (Packed 1): what follows the UUID
 abbrev pub tailWidths : List ℕ
 tailWidths = 1 ∷ 1 ∷ 1 ∷ 5 ∷ 32 ∷ []
 
@@ -97,7 +97,7 @@ zeroAt s i = eqb (tailField s (startOf i) 3) 0
 unfoldable pub reservedClear : List ℕ → ℕ → Bool
 reservedClear s n = eqb (headField s 2) 0 && allBelow n (zeroAt s)
 
--- 20, 21, 22: too short (under 2 bytes too); too long; reserved bit set
+-- 20, 21, 22: fewer bytes than the counts call for, more of them, a zero bit that is set
 unfoldable pub shapeOf : List ℕ → Verdict
 shapeOf s =
     unless (leb 2 (length s)) (Refused TooShort)
@@ -178,7 +178,7 @@ abbrev pub lengthIn : Written → ℕ
 lengthIn (Bytes n) = n
 lengthIn (Nothing x) = 0
 
--- the part that was written: "a refused part is empty"
+-- the part that was written, empty with a refusal
 abbrev pub partBy : Written → Board → List ℕ
 partBy (Bytes n) b = bytesOf b
 partBy (Nothing x) b = []
@@ -186,7 +186,7 @@ partBy (Nothing x) b = []
 abbrev pub partOf : List ℕ → Board → List ℕ
 partOf d b = partBy (putOf (length d) b) b
 
--- the buffer after it: "Bytes not written stay"
+-- the buffer after it (Packed 11)
 abbrev pub bufferOf : List ℕ → Board → List ℕ
 bufferOf d b = put d 0 (partOf d b)
 

@@ -1,4 +1,4 @@
--- Every CPU of a board has room in a set, and a fresh record is well formed. Assumes nothing.
+-- Every CPU of a board has room in a set, and a fresh record is well formed: by computing, and clause by clause. Assumes nothing.
 use Prim.Native.Nat.{ℕ, _≤_}
 use mathlib.Core.Path.{_≡_, refl}
 use mathlib.Core.Bool.{true, false}

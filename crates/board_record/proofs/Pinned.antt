@@ -1,4 +1,4 @@
--- Each public function's promise leaves one outcome. Assumes nothing.
+-- Each public function's promise leaves one outcome: any two that it allows are both what it names. Assumes nothing.
 use Rattle.basics.proofs.Pin.{OneOutcome, just}
 use Rattle.board_record.proofs.fresh.Kinds as fresh-kinds
 use Rattle.board_record.proofs.fresh.Reads as fresh-reads

@@ -16,7 +16,7 @@ use Rattle.board_record.specs.declared.Holding.{Holding}
 use Rattle.board_record.specs.declared.Holding.the-variants.{Nobody, One, Part, All}
 use Rattle.board_record.specs.declared.Record.{Record}
 
--- "the state with its component (idle and dead have none)"
+-- "the state with its component" (Board 3)
 abbrev pub subjectOf : State → Subject
 subjectOf Idle = Nothing
 subjectOf (Preparing c) = Of c
@@ -44,8 +44,7 @@ isAbout (Of c) id = eqb c id
 abbrev pub isFor : State → ℕ → Bool
 isFor s id = isAbout (subjectOf s) id
 
--- "one powered CPU in preparing or alone; a non-empty proper part of the powered ones in gathering; all of them in
--- together; none elsewhere"
+-- how many of the powered CPUs each state holds ("Held CPUs", Board 6)
 abbrev pub holdingOf : State → Holding
 holdingOf Idle = Nobody
 holdingOf (Preparing c) = One
@@ -119,14 +118,14 @@ isAlone s = eqb (placeOf s) alonePlace
 abbrev pub skipsRendezvous : State → Bool
 skipsRendezvous s = oneOf (placeOf s) (alonePlace ∷ halfActivatedPlace ∷ [])
 
--- whether component id has a pending image, and "each pending image's version (0 where none is pending)"
+-- whether component id has a pending image, and its version (Board 3)
 abbrev pub isPending : List Bool → ℕ → Bool
 isPending pending id = getD pending id false
 
 abbrev pub versionOf : List ℕ → ℕ → ℕ
 versionOf version id = getD version id 0
 
--- "Fresh: CPU 0 on, others off, nothing pending, state idle, GET_INFO not yet called"
+-- "Fresh" (Board 4)
 unfoldable pub freshOf : Board → Record
 freshOf b = record {
   board = b;

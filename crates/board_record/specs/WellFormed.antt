@@ -20,14 +20,14 @@ use Rattle.board_record.specs.declared.Holding.{Holding}
 use Rattle.board_record.specs.declared.Holding.the-variants.{Nobody, One, Part, All}
 use Rattle.board_record.specs.declared.Record.{Record}
 
--- "counts are in limits, .. optional and may_reset are never both set, UUIDs differ, first ≤ last": `boardStands`. "values
--- kept at 0 and all places past a count are 0": components there, images in `imagesStand`, CPUs in the sets and `entriesStand`
+-- "well formed" (Board 5): counts, flags, UUIDs and range in `boardStands`. What has to be 0: components there, images in
+-- `imagesStand`, CPUs in the sets and `entriesStand`
 
--- "only existing CPUs are on and at least one is"
+-- the powered CPUs (Board 5): the board has them, and there is one
 unfoldable pub poweredStand : ℕ → CpuSet → Bool
 poweredStand cpus on = not (sameOf on noneOf) && withinOf on (belowOf cpus)
 
--- "only existing capable components are pending"; where none is pending the version is 0
+-- what may be pending (Board 5); where none is pending the version is 0
 unfoldable pub imageStands : Bool → Bool → ℕ → Bool
 imageStands capable pending version = pick pending capable (eqb version 0)
 
@@ -37,7 +37,7 @@ imageAt b pending version i = imageStands (isCapable b i) (isPending pending i) 
 unfoldable pub imagesStand : Board → List Bool → List ℕ → Bool
 imagesStand b pending version = allBelow mostComponents (imageAt b pending version)
 
--- "the state's component is pending with image version at least its SVN"; "Alone and half-activated need optional"
+-- the state's component and its image (Board 5), and what "Alone and half-activated" ask of it (Board 7)
 unfoldable pub subjectStands : Component → Bool → Bool → ℕ → Bool
 subjectStands c alone pending version = pending && (leb (c .svn) version && pick alone (c .optional) true)
 
@@ -49,7 +49,7 @@ standsBy b pending version alone (subject.Of c) =
 unfoldable pub stateStands : Board → List Bool → List ℕ → State → Bool
 stateStands b pending version s = standsBy b pending version (skipsRendezvous s) (subjectOf s)
 
--- "Held CPUs: one powered CPU ..; a non-empty proper part of the powered ones ..; all of them ..; none elsewhere"
+-- "Held CPUs" (Board 6): one, some and not all, all, or nobody
 abbrev pub heldBy : Holding → CpuSet → CpuSet → Bool
 heldBy Nobody on held = sameOf held noneOf
 heldBy One on held = withinOf held on && eqb (countOf held) 1
@@ -59,8 +59,8 @@ heldBy All on held = sameOf held on
 unfoldable pub heldStand : State → CpuSet → CpuSet → Bool
 heldStand s on held = heldBy (holdingOf s) on held
 
--- "the entries and context ids of CPUs held for ACTIVATE with may_reset (0 elsewhere)": whose are kept; in alone nobody's,
--- since optional and may_reset are never both set
+-- "the entries and context ids" (Board 3): whose are kept; in alone nobody's, since no component is both optional and
+-- may_reset
 abbrev pub mayResetBy : Board → Subject → Bool
 mayResetBy b subject.Nothing = false
 mayResetBy b (subject.Of c) = mayReset b c
@@ -71,7 +71,7 @@ keepsEntries b s = isRendezvous s && mayResetBy b (subjectOf s)
 abbrev pub keepersOf : Board → State → CpuSet → CpuSet
 keepersOf b s held = pick (keepsEntries b s) held noneOf
 
--- "In gathering and together with may_reset, each held CPU's entry is valid"; 0 elsewhere
+-- the entry of a held CPU "is valid" (Board 8); 0 elsewhere
 unfoldable pub entryStands : ℕ → ℕ → Bool → ℕ → ℕ → Bool
 entryStands first last keeps entry context = pick keeps (goodEntry first last entry) (eqb entry 0 && eqb context 0)
 

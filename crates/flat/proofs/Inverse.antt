@@ -1,4 +1,5 @@
--- Records as numbers and back: on what is well formed each way undoes the other. Assumes nothing.
+-- Records as numbers and back, each way undoing the other on what is well formed: flags by cases, states along their order, tables at
+-- each place. Assumes nothing.
 use Prim.Native.Nat.{ℕ, zero, suc, _<_, _≤_}
 use mathlib.Core.Path.{_≡_, refl, ap, _∙_}
 use mathlib.Core.Bool.{Bool, true, false, _&&_}

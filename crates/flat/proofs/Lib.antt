@@ -1,3 +1,4 @@
+pub mod Back
 pub mod Inverse
 pub mod Pinned
 pub mod Sizes

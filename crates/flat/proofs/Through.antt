@@ -1,4 +1,5 @@
--- The step on numbers is the agent's step through the conversion, and an answer's numbers say all of it. Assumes nothing.
+-- The step on numbers is the agent's step through the conversion, by the two tests that it makes; so the agent's theorems hold of it.
+-- An answer's numbers say all of it, by cases. Assumes nothing.
 use Prim.Native.Nat.{ℕ}
 use mathlib.Core.Path.{_≡_, refl, sym, ap, _∙_}
 use mathlib.Core.Bool.{Bool, true, false}

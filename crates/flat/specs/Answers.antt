@@ -41,7 +41,7 @@ use Rattle.flat.specs.declared.FlatWritten.{FlatWritten}
 use Rattle.trace.specs.declared.Read.{Read}
 use Rattle.trace.specs.declared.Read.the-variants.{Known, Unknown}
 
--- ---- events: kinds as the log numbers them, "call 1, prime 2, activate 3, image 4"
+-- ---- events: kinds as the log numbers them (Packed 3)
 abbrev pub eventIn : FlatEvent → Read
 eventIn e =
     pick (eqb (e .kind) callKind) (Known (event.Call (e .call)))
@@ -83,7 +83,7 @@ acceptedIn a = record {
   release = releaseIn (a .release) (a .freed);
 }
 
--- ---- the log record of an event with its answer: "Only accepted events are logged"
+-- ---- the log record of an event with its answer, where it was accepted (Packed 12)
 abbrev pub loggedBy : Read → FlatAnswer → LogRecord
 loggedBy Unknown a = blank
 loggedBy (Known e) a = loggedOf e (acceptedIn a)

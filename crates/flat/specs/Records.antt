@@ -39,7 +39,7 @@ areFlags all = allBelow mostComponents (λ i. isFlag (getD all i 0))
 abbrev pub stateIn : ℕ → ℕ → State
 stateIn n c = getD (inOrder c) n Dead
 
--- "idle and dead have none": there it is 0
+-- in idle and dead, which have none, it is 0
 abbrev pub isState : ℕ → ℕ → Bool
 isState n c = ltb n stateCount && eqb (subjectNumber (stateIn n c)) c
 

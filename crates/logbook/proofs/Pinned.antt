@@ -1,4 +1,4 @@
--- Each public function's promise leaves one outcome. Assumes nothing.
+-- Each public function's promise leaves one outcome: any two that it allows are both what it names. Assumes nothing.
 use Rattle.basics.proofs.Pin.{OneOutcome, just}
 use Rattle.logbook.proofs.record_at.Kinds as record-at-kinds
 use Rattle.logbook.proofs.record_at.Reads as record-at-reads

@@ -29,7 +29,7 @@ fn accepted_from(b: Board, s: Story, cpu: u64) -> bool
     false
 }
 
-// The fields of an ACTIVATE without skip are valid for component c.
+// X1 to X3 are those of an ACTIVATE for component c, without skip.
 fn fields_valid(b: Board, call: Call, c: u64) -> bool
     ensures { λ r. ⌜ r ≡ fieldsValid b call c ⌝ }
 {
@@ -45,7 +45,7 @@ fn fields_valid(b: Board, call: Call, c: u64) -> bool
     board::is_entry_right(b, c, call.x3)
 }
 
-// No activation without rendezvous began, and every other powered CPU became held in that time: none is beyond the sets.
+// Nobody skipped the rendezvous, and all other powered CPUs came in that time: none is beyond the sets.
 fn all_gathered(s: Story, cpu: u64) -> bool
     ensures { λ r. ⌜ r ≡ (not (s .alone) && othersGathered s cpu) ⌝ }
 {

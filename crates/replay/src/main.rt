@@ -1,4 +1,5 @@
 // reads a log from standard input and writes which component is prepared at each place of it
+use libc::STDERR_FILENO;
 use libc::STDIN_FILENO;
 use libc::STDOUT_FILENO;
 use logbook::Checked;
@@ -89,6 +90,6 @@ fn main() {
     if n == ROOM || is_at_end() {
         replay(&buf[..n]);
     } else {
-        text(b"cannot read standard input\n");
+        io::write_all(STDERR_FILENO, b"cannot read standard input\n");
     }
 }

@@ -1,4 +1,5 @@
--- What holds where a move is decided: one record of facts for each kind of move (`decide-guard`, Guards.antt). Assumes nothing.
+-- What holds where a move is decided: one record of facts for each kind of move, shown along the rules (`decide-guard`, Guards.antt).
+-- Assumes nothing.
 use Prim.Native.Nat.{ℕ, _^_, _<_, _≤_}
 use mathlib.Core.Path.{_≡_, sym, ap, _∙_}
 use mathlib.Core.Bool.{Bool, true, false}

@@ -1,4 +1,5 @@
--- The facts of Facts.antt hold where their moves are decided: each rule is gone along once. Assumes nothing.
+-- The facts of Facts.antt hold where their moves are decided: each rule is gone along once, and its tests on the way are the facts.
+-- Assumes nothing.
 use Prim.Native.Nat.{ℕ, _-_, _^_, _<_, _≤_}
 use mathlib.Core.Path.{_≡_, refl, sym, ap, _∙_}
 use mathlib.Core.Bool.{Bool, true, false, not, _&&_, _||_}

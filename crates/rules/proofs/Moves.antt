@@ -1,5 +1,5 @@
--- What is decided, in document 01's numbers: the refusal is the first of its table that applies, and what is accepted is told as
--- its kind of event is. Assumes nothing.
+-- What is decided, in document 01's numbers: a refusal is the first of its table, and past these tests no call is refused (`Free`);
+-- what is accepted is told as its kind of event is, by its move's facts. Assumes nothing.
 use Prim.Native.Nat.{ℕ}
 use mathlib.Core.Path.{_≡_, refl}
 use mathlib.Core.Bool.{Bool, true, false, not, _&&_}
@@ -144,7 +144,7 @@ module _ (r : Record) (call : Call) (some-free : holdingOf (r .state) ≡ All �
   answer-free (Known f) = function-free f
   answer-free Unknown = said _
 
--- ---- the table: "The first that applies, downwards and left to right, is given"
+-- ---- the table: "The first that applies" (Events 20)
 
 call-first : (absent on held : Bool) (m : Move) → (on ≡ true → held ≡ false → numbersOf m .refusal ≡ 0)
     → numbersOf (pick absent (Refuse NoSuchCpu) (pick on (pick held (Refuse CpuHeld) m) (Refuse CpuOff))) .refusal ≡ firstOf ((2, absent) ∷ (3, not on) ∷ (4, held) ∷ [])

@@ -1,5 +1,5 @@
 -- The states that the moves ask for, each kind with the cases that it has, and what they are: whom they hold, and what they
--- are about. Assumes nothing.
+-- are about. All by cases of the state, and the table row by row (`row-says`). Assumes nothing.
 use Prim.Native.Nat.{ℕ}
 use mathlib.Core.Path.{_≡_, refl}
 use mathlib.Core.Bool.{true, false}

@@ -38,7 +38,7 @@ use Rattle.rules.specs.declared.numbers.Function.the-variants as functio
 use Rattle.rules.specs.declared.numbers.Decoded.{Decoded}
 use Rattle.rules.specs.declared.numbers.Decoded.the-variants.{Known, Unknown}
 
--- "returned with X0 to X3 (unnamed ones are 0)"
+-- "returned", with the "unnamed ones" 0 (Events 4)
 unfoldable pub returned : ℕ → Move
 returned x0 = Return (record { x0 = x0; x1 = 0; x2 = 0; x3 = 0 })
 
@@ -50,15 +50,15 @@ says k = returned (minusOf k)
 abbrev pub noCaller : Move
 noCaller = Refuse NotWellFormed
 
--- ---- FEATURES: "0 if X1 is 0xC40002E0 to 0xC40002E6, else -1"
+-- ---- FEATURES (Calls 5)
 unfoldable pub featuresOf : ℕ → Move
 featuresOf x1 = pick (leb versionNumber x1 && leb x1 cancelNumber) (says 0) (says 1)
 
--- ---- GET_INFO: "X1 = 0 gives 0 and the component count and notes the call; else -8"
+-- ---- GET_INFO (Calls 6)
 unfoldable pub infoOf : ℕ → Move
 infoOf x1 = pick (eqb x1 0) NoteInfo (says 8)
 
--- ---- GET_INVENTORY
+-- ---- GET_INVENTORY (Calls 7)
 
 -- n bytes from place i on, "lowest byte first"
 unfoldable pub lowestFirst : ℕ → List ℕ → ℕ → ℕ
@@ -68,16 +68,16 @@ lowestFirst (suc n) s i = getD s i 0 + 256 * lowestFirst n s (suc i)
 abbrev pub wordOf : List ℕ → ℕ → ℕ
 wordOf uuid i = lowestFirst 8 uuid i
 
--- "bit 0 capable, 1 pending, 2 may_reset, 3 optional"
+-- the four flags, from bit 0 on
 abbrev pub flagsOf : Component → Bool → ℕ
 flagsOf c pending = digitOf (c .capable) + 2 * digitOf pending + 4 * digitOf (c .«may_reset») + 8 * digitOf (c .optional)
 
--- "UUID bytes 0-7 in X1 and 8-15 in X2 .. and flags"
+-- the halves of the UUID in X1 and X2, and the flags
 unfoldable pub describedOf : Component → Bool → Registers
 describedOf c pending =
     record { x0 = 0; x1 = wordOf (c .uuid) 0; x2 = wordOf (c .uuid) 8; x3 = flagsOf c pending }
 
--- "-7 without a noted GET_INFO; -8 if X1 is no component"
+-- -7 goes before -8
 unfoldable pub inventoryOf : Record → ℕ → Move
 inventoryOf r x1 =
     pick (r .informed)
@@ -86,18 +86,18 @@ inventoryOf r x1 =
     (says 8))
     (says 7)
 
--- ---- PRIME
+-- ---- PRIME (Calls 20)
 
 -- the caller becomes held; where it resumes is kept only for a rendezvous with may_reset
 unfoldable pub arrivalOf : Call → Bool → Arrival
 arrivalOf call keeps =
     record { component = call .x1; cpu = call .cpu; entry = pick keeps (call .x3) 0; context = pick keeps (call .x4) 0 }
 
--- "-7 for an id that is no component, .. not capable or not pending (H)"
+-- an id that it takes, else -7 (H)
 unfoldable pub mayPrime : Record → ℕ → Bool
 mayPrime r id = isCapable (r .board) id && isPending (r .pending) id
 
--- "then -3 if the image version is below the SVN (H); else prime starts and the caller is held"
+-- then -3 by the image's version (H), and else it starts
 unfoldable pub tryPrimeOf : Record → Call → Move
 tryPrimeOf r call =
     pick (mayPrime r (call .x1))
@@ -118,30 +118,29 @@ primeBy prime.NoCaller r call = noCaller
 abbrev pub primeOf : Record → Call → Move
 primeOf r call = primeBy (ruleOf (r .state) .prime) r call
 
--- ---- ACTIVATE
+-- ---- ACTIVATE (Calls 21 to 25)
 
 -- X2 is the flags; with none above bit 0, skip is 1
 abbrev pub skips : Call → Bool
 skips call = eqb (call .x2) 1
 
--- "skip on a component that isn't optional, .. skip in gathering, .. no skip in alone or half-activated (H)": none of these
+-- skip for an optional component and not in gathering, and always in alone and half-activated (H)
 unfoldable pub skipRight : Component → State → Bool → Bool
 skipRight c s skip = pick skip (pick (isGathering s) false (c .optional)) (not (skipsRendezvous s))
 
--- else -8: "an id that is not the state's, .. flags above bit 0"
+-- with that, the state's id and no other flag; else -8
 unfoldable pub fieldsRight : Record → Call → Bool
 fieldsRight r call =
     isFor (r .state) (call .x1)
     && pick (ltb 1 (call .x2)) false (skipRight (numberedOf (r .board) (call .x1)) (r .state) (skips call))
 
--- "Without skip the caller is held; if all powered CPUs are now held, activation starts, state together; else gathering"
+-- a rendezvous: the caller is held, and the last of the powered CPUs starts it (Calls 25)
 unfoldable pub joinOf : Record → Call → Move
 joinOf r call =
     let a = arrivalOf call (mayReset (r .board) (call .x1)) in
     pick (sameOf (withOf (r .held) (call .cpu)) (r .on)) (StartTogether a) (Gather a)
 
--- "Then, with may_reset, -10 unless X3 is a multiple of 4 in the range (H); without it X3 and X4 are ignored. Then -2 in alone. Then
--- skip starts activation, state alone, caller held"
+-- -8, then -10 (H), then -2, in document 01's order; then it starts alone with skip, or the caller joins
 unfoldable pub tryActivateOf : Record → Call → Move
 tryActivateOf r call =
     pick (fieldsRight r call)
@@ -160,7 +159,7 @@ activateBy activate.NoCaller r call = noCaller
 abbrev pub activateOf : Record → Call → Move
 activateOf r call = activateBy (ruleOf (r .state) .activate) r call
 
--- ---- CANCEL: "in idle and dead 0 for any id. Elsewhere -8 for another id before the cell applies"
+-- ---- CANCEL: the id counts only where the state has a component, and before the cell (Calls 26 and 27)
 abbrev pub isOtherThan : Subject → ℕ → Bool
 isOtherThan subject.Nothing id = false
 isOtherThan (subject.Of c) id = not (eqb c id)
@@ -176,7 +175,7 @@ cancelBy cancel.NoCaller = noCaller
 unfoldable pub cancelOf : Record → Call → Move
 cancelOf r call = pick (isOther (r .state) (call .x1)) (says 8) (cancelBy (ruleOf (r .state) .cancel))
 
--- ---- CPU_OFF: "-3 if frozen or the last one on (H); else gone"
+-- ---- CPU_OFF: -3 also for the last CPU (Calls 29, H)
 unfoldable pub offFree : Record → ℕ → Move
 offFree r cpu = pick (sameOf (r .on) (onlyOf cpu)) (says 3) (PowerOff cpu)
 
@@ -188,7 +187,7 @@ offBy power.NoCaller r cpu = noCaller
 abbrev pub offOf : Record → ℕ → Move
 offOf r cpu = offBy (ruleOf (r .state) .power) r cpu
 
--- ---- CPU_ON: "-2 no such target; -9 bad entry as above; -4 already on; -6 if frozen (H); else 0 and the target resumes"
+-- ---- CPU_ON: -2, -9, -4, -6 in this order (Calls 30, H)
 abbrev pub wakeBy : PowerCell → Call → Move
 wakeBy power.Free call = PowerOn (record { target = call .x1; entry = call .x2; context = call .x3 })
 wakeBy power.Frozen call = says 6
@@ -205,7 +204,7 @@ onOf r call =
     (wakeOf (r .state) call))
     (says 9))
 
--- ---- any call: "The function number is the low 32 bits of X0. For a word that is not one of the nine .. X0 is -1"
+-- ---- any call: by its function, and -1 where it has none (Calls 1 and 2)
 abbrev pub functionOf : Record → Call → Function → Move
 functionOf r call function.Version = returned 65536
 functionOf r call function.Features = featuresOf (call .x1)
@@ -224,7 +223,7 @@ answerBy Unknown r call = says 1
 unfoldable pub answerOf : Record → Call → Move
 answerOf r call = answerBy (decodeOf (functionNumber (call .x0))) r call
 
--- 2, 3, 4: "no such CPU; CPU off; CPU held"
+-- 2, 3, 4 (Events 11)
 unfoldable pub callOf : Record → Call → Move
 callOf r call =
     pick (leb (r .board .cpus) (call .cpu)) (Refuse NoSuchCpu)

@@ -16,7 +16,7 @@ use Rattle.rules.specs.declared.Refusal.the-variants.{NotWellFormed, Tab
 use Rattle.rules.specs.declared.Move.{Move}
 use Rattle.rules.specs.declared.Move.the-variants.{Refuse}
 
--- 9, 1: "record not well formed"; "a resume table is shorter than the CPU count"; else what is given
+-- 9, then 1 (Events 9 and 10), else what is given
 abbrev pub admitted : {A : Type 0} → (Refusal → A) → Record → ℕ → ℕ → A → A
 admitted refuse r entryPlaces contextPlaces given =
     pick (wellFormed r)

@@ -24,8 +24,8 @@ use Rattle.rules.specs.declared.Event.the-variants as event
 use Rattle.rules.specs.declared.Move.{Move}
 use Rattle.rules.specs.declared.Move.the-variants.{Refuse, Return, NoteInfo, StartPrime, Gather, StartTogether, StartAlone, ToIdle, PowerOff, PowerOn, EndPrime, EndActivate, NoteImage}
 
--- ---- the number of its refusal, 0 where it is none; the outcome that its event has in the log, 0 for a refusal; and word 6,
--- "X0 given for outcomes 1 and 6. All else 0"
+-- ---- the number of its refusal, 0 where it is none; the outcome that its event has in the log, 0 for a refusal; and "Word 6"
+-- (Packed 6)
 pub record Numbers : Type 0 where
   pub refusal : ℕ
   pub outcome : ℕ
@@ -38,8 +38,7 @@ refusedWith n = record { refusal = n; outcome = 0; given = 0 }
 unfoldable pub toldAs : ℕ → ℕ → Numbers
 toldAs outcome given = record { refusal = 0; outcome = outcome; given = given }
 
--- "The held CPUs are released with that status and X1 = 0, or with X0 = 0 and X1 = 1 for code 1"; of code 12 "word 6 of its
--- record is 0"
+-- the X0 and X1 with which the held CPUs are released (Reports 2); a reset gives no X0 (Reports 6)
 unfoldable pub primeStatus : ℕ → ℕ
 primeStatus code = pick (eqb code 1) 0 (minusOf code)
 
@@ -69,10 +68,9 @@ abbrev pub refusalOf : Admission → ℕ
 refusalOf Admitted = 0
 refusalOf (Refused x) = numberOf x
 
--- ---- | No. | Given exactly when |
+-- ---- the table of refusals (Events 8)
 
--- | 2, 3, 4 | call: no such CPU; CPU off; CPU held |, | 5, 6 | report: no job of that kind running for that component; code not
--- allowed for it |, | 7, 8 | image: no such or not capable component; it is the state's component |
+-- of calls (Events 11), of reports (Events 12) and of images (Events 13)
 abbrev pub rowsFor : Record → Event → List Row
 rowsFor r (event.Call call) = (2, leb (r .board .cpus) (call .cpu)) ∷ (3, not (hasOf (r .on) (call .cpu))) ∷ (4, hasOf (r .held) (call .cpu)) ∷ []
 rowsFor r (event.Prime p) = (5, not (isPriming (r .state) (p .component))) ∷ (6, not (isPrimeCode (p .code))) ∷ []
@@ -82,7 +80,7 @@ rowsFor r (event.Activate p) =
     ∷ []
 rowsFor r (event.Image i) = (7, not (isCapable (r .board) (i .component))) ∷ (8, isFor (r .state) (i .component)) ∷ []
 
--- | 9 | record not well formed |, | 1 | a resume table is shorter than the CPU count |, and the rows after them
+-- those of any event (Events 9 and 10), and the rows after them
 abbrev pub admissionRows : Record → ℕ → ℕ → List Row → List Row
 admissionRows r entries contexts rows =
     (9, not (wellFormed r)) ∷ (1, ltb entries (r .board .cpus) || ltb contexts (r .board .cpus)) ∷ rows
@@ -92,14 +90,14 @@ eventRows r e entries contexts = admissionRows r entries contexts (rowsFor r e)
 
 -- ---- what is accepted
 
--- "Calls have outcomes 1 to 5, reports 6, images 7"; a report gives its status
+-- which outcomes each event has (Packed 8); a report gives its status
 abbrev pub isTold : Event → Numbers → Bool
 isTold (event.Call call) m = oneOf (m .outcome) callOutcomes
 isTold (event.Prime p) m = eqb (m .outcome) released && eqb (m .given) (primeStatus (p .code))
 isTold (event.Activate p) m = eqb (m .outcome) released && eqb (m .given) (activateStatus (p .code))
 isTold (event.Image i) m = eqb (m .outcome) noted && eqb (m .given) 0
 
--- what an event calls for: "The first that applies .. is given", and nothing else, or it is told
+-- what an event calls for: "The first that applies" (Events 20) and nothing else, or it is told
 pub record Decided (r : Record) (e : Event) (entries contexts : ℕ) (m : Numbers) : Type 0 where
   pub refusal : m .refusal ≡ firstOf (eventRows r e entries contexts)
   pub nothing : (m .refusal ≡ 0 → ⊥) → m ≡ refusedWith (m .refusal)

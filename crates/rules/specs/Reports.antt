@@ -24,18 +24,18 @@ isPriming s id = isPreparing s && isFor s id
 abbrev pub isActivating : State → ℕ → Bool
 isActivating s id = oneOf (placeOf s) (togetherPlace ∷ alonePlace ∷ []) && isFor s id
 
--- "12 in together with may_reset only": an activate job that is not in alone is in together
+-- where 12 is allowed (Reports 4): an activate job that is not in alone is in together
 abbrev pub resumesOf : Bool → Bool → Bool
 resumesOf alone reset = not alone && reset
 
--- "Activate allows 0; 1 in alone only; 12 ..; 2, 3, 4, 5, 6, 9, 11"
+-- what "Activate allows" (Reports 4)
 unfoldable pub activateAllows : Bool → Bool → ℕ → Bool
 activateAllows alone reset code =
     pick (eqb code 1) alone
     (pick (eqb code byReset) (resumesOf alone reset)
     (isActivateCode code))
 
--- 5, 6: "no job of that kind running for that component; code not allowed for it"
+-- 5, then 6 (Events 12)
 unfoldable pub primeReportOf : Record → Report → Move
 primeReportOf r p =
     pick (isPriming (r .state) (p .component))
@@ -50,7 +50,7 @@ activateReportOf r p =
     (Refuse CodeNotAllowed))
     (Refuse NoSuchJob)
 
--- 7, 8: "no such or not capable component; it is the state's component"
+-- 7, then 8 (Events 13)
 unfoldable pub imageOf : Record → Image → Move
 imageOf r i =
     pick (isCapable (r .board) (i .component))

@@ -5,7 +5,7 @@ use Rattle.basics.specs.Choice.{pick}
 use Rattle.rules.specs.declared.Refusal.{Refusal}
 use Rattle.rules.specs.declared.Refusal.the-variants.{NotWellFormed, TableShort, NoSuchCpu, CpuOff, CpuHeld, NoSuchJob, CodeNotAllowed, NotCapable, StateComponent}
 
--- "A status -k is 2^64 - k"; 0 is 0
+-- "A status -k" as a word (Events 7); 0 is 0
 unfoldable pub minusOf : ℕ → ℕ
 minusOf k = pick (eqb k 0) 0 (2 ^ 64 - k)
 

@@ -1,4 +1,4 @@
--- The table of rules (document 01, "Calls"): "one row for each state and one cell for each call". Assumes nothing.
+-- The table of rules (document 01, "Calls", from Calls 9 to 19). Assumes nothing.
 use Prim.Native.Nat.{ℕ}
 use mathlib.Core.List.{map}
 use lib.ListN.{getD}

@@ -1,4 +1,4 @@
-// The table of rules: one row for each state, one cell for each call.
+// The table of rules: a row of cells for each state.
 use board_record::STATES;
 use board_record::State;
 ghost use mathlib.Core.Path.{_≡_};

@@ -1,10 +1,9 @@
--- The walk of a door, over any types. A door copies the record that it is lent to a step, stores the record that the step
--- returns, and returns the step's answer:
+-- The walk of a door, over any types: the record's borrow is opened, and closed at what the step returned; the tables' are given up.
+-- A door copies the record that it is lent to a step, stores the record that the step returns, and returns the step's answer:
 --     let s = STEP(*rec, e, entries, contexts);  *rec = s.rec;  s.answer
--- It promises of the lent record, the answer and the two tables what the step promises by value. The record's borrow is opened,
--- and closed at the record that is stored. The tables' borrows are given up to the step for good, at their own lifetimes, shares
--- and ghost names (`gave-slice`): what it says of the last lists is what is said of them here. Of the step the walk knows only
--- that it meets its contract. Assumes nothing.
+-- It promises of the lent record, the answer and the two tables what the step promises by value. The tables' borrows are given up to
+-- the step for good, at their own lifetimes, shares and ghost names (`gave-slice`): what it says of the last lists is what is said of
+-- them here. Of the step the walk knows only that it meets its contract. Assumes nothing.
 use mathlib.Core.Path.{_≡_, refl, ap, subst}
 use Prim.Native.Nat.{ℕ, zero, _+_}
 use mathlib.Core.List.{[], _∷_, _++_, List}

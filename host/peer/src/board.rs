@@ -149,7 +149,7 @@ impl Board {
         u64::MAX >> (MAX_CPUS as u64 - self.cpus)
     }
 
-    /// Whether an entry address is a multiple of 4 in the range.
+    /// Whether an entry address is in the range, and a multiple of 4.
     #[inline]
     pub fn is_good_entry(&self, entry: u64) -> bool {
         entry.is_multiple_of(4) & (self.first <= entry) & (entry <= self.last)

@@ -35,7 +35,7 @@ pub struct Call {
 pub struct Report {
     /// The job's component.
     pub component: u64,
-    /// 0 done, 1 call again, 12 done by reset, else the status without its sign.
+    /// What became of the job: 0, 1 for again, 12 for a reset, or a status without its sign.
     pub code: u64,
 }
 

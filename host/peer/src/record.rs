@@ -57,9 +57,9 @@ pub struct Record {
     pub on: u64,
     /// The held CPUs.
     pub held: u64,
-    /// The entries of CPUs held for ACTIVATE with may_reset, 0 elsewhere.
+    /// Where each CPU resumes that may be reset while held, else 0.
     pub entry: [u64; MAX_CPUS],
-    /// The context ids of CPUs held for ACTIVATE with may_reset, 0 elsewhere.
+    /// The context id of each of them, else 0.
     pub context: [u64; MAX_CPUS],
     /// GET_INFO was called and not yet forgotten.
     pub informed: bool,

@@ -5,7 +5,7 @@
 #[derive(Clone, Copy, PartialEq, Eq, Hash, Debug)]
 #[repr(u8)]
 pub enum Refusal {
-    /// A resume table is shorter than the CPU count.
+    /// A resume table has too few places for the board's CPUs.
     ShortTable = 1,
     /// The call names a CPU the board does not have.
     NoSuchCpu = 2,

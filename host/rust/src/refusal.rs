@@ -3,12 +3,12 @@
 use core::error::Error;
 use core::fmt;
 
-/// A refusal, by its number. It comes with nothing else and changes nothing lent.
+/// A refusal, by its number. It is the whole answer, and all that was lent is as it was.
 #[derive(Clone, Copy, Debug, PartialEq, Eq, Hash)]
 pub struct Refusal(u64);
 
 impl Refusal {
-    /// A resume table is shorter than the CPU count.
+    /// A resume table has too few places for the board's CPUs.
     pub const SHORT_TABLE: Refusal = Refusal(1);
     /// Call: no such CPU.
     pub const NO_SUCH_CPU: Refusal = Refusal(2);
@@ -16,7 +16,7 @@ impl Refusal {
     pub const CPU_OFF: Refusal = Refusal(3);
     /// Call: CPU held.
     pub const CPU_HELD: Refusal = Refusal(4);
-    /// Report: no job of that kind running for that component.
+    /// Report: the component has no such job running.
     pub const NO_JOB: Refusal = Refusal(5);
     /// Report: code not allowed for the job.
     pub const CODE: Refusal = Refusal(6);
@@ -42,7 +42,7 @@ impl Refusal {
     pub const FIELD: Refusal = Refusal(31);
     /// Log: kind, outcome or code unknown. Event: kind unknown, which an [`Event`](crate::Event) never is.
     pub const UNKNOWN: Refusal = Refusal(32);
-    /// Log length no multiple of 51, over 1,024 records, or place past its end.
+    /// Log: part of a record, over 1,024 of them, or a place past the end.
     pub const LOG: Refusal = Refusal(33);
     /// No room for 51 bytes.
     pub const NO_ROOM: Refusal = Refusal(34);
@@ -63,11 +63,11 @@ impl Refusal {
     /// What was refused, in short.
     fn words(self) -> &'static str {
         match self {
-            Refusal::SHORT_TABLE => "a resume table is shorter than the CPU count",
+            Refusal::SHORT_TABLE => "a resume table has too few places for the board's CPUs",
             Refusal::NO_SUCH_CPU => "call: no such CPU",
             Refusal::CPU_OFF => "call: CPU off",
             Refusal::CPU_HELD => "call: CPU held",
-            Refusal::NO_JOB => "report: no job of that kind running for that component",
+            Refusal::NO_JOB => "report: the component has no such job running",
             Refusal::CODE => "report: code not allowed for it",
             Refusal::COMPONENT => "image: no such or not capable component",
             Refusal::IN_USE => "image: it is the state's component",
@@ -80,9 +80,7 @@ impl Refusal {
             Refusal::UUID_TWICE => "board: UUID twice",
             Refusal::FIELD => "log: unused field not 0, or a number too large for its field",
             Refusal::UNKNOWN => "kind, outcome or code unknown",
-            Refusal::LOG => {
-                "log length no multiple of 51, over 1,024 records, or place past its end"
-            }
+            Refusal::LOG => "log: part of a record, over 1,024 of them, or a place past the end",
             Refusal::NO_ROOM => "no room for 51 bytes",
             _ => "unknown refusal",
         }

@@ -1,3 +1,4 @@
+-- The promises of the calls, put one into the next, are `stepOf` and both tables (`in-turn`); where nobody resumes the tables stay.
 use mathlib.Core.Path.{_≡_, sym}
 use mathlib.Core.Bool.{true}
 use mathlib.Core.List.{List}

@@ -1,3 +1,4 @@
+-- What `lines` and the two refusals ask of their caller is what `read_board` and `check_log` promise, in the case that the match names.
 use mathlib.Core.Path.{sym, ap, _∙_}
 use borrow.Author.Needs.{needs}
 use Rattle.board.specs.declared.ReadBoard.{ReadBoard}

@@ -1,3 +1,4 @@
+-- By the loop's invariant: the record is that replayed to place k, and the story that of the k records before it; so each turn is `turnAt`.
 use Prim.Native.Nat.{_-_, _≤_}
 use native.Mathlib.Omega.{arith}
 use mathlib.Core.Path.{_≡_, ap, _∙_}
@@ -48,7 +49,7 @@ turn c =
     turned-at _ _ _ _ _ _ _ (i .0) (i .1) (c .before .said-at .ensures) (c .turned .ensures .0)
 
 line-requires : tie.Need-line-requires Inv-loop μ-loop
-line-requires c κs = turn c
+line-requires c κs = (c .before .said-at .ensures, turn c)
 
 told-requires : tie.Need-told-requires Inv-loop μ-loop
 told-requires c κs = search needs

@@ -1,3 +1,4 @@
+-- To show is that both files lie in their buffers: `files::read` promises it of the length that it gives.
 use borrow.Author.Needs.{needs}
 use Rattle.bench.proofs.main.Statement.{statement}
 use Rattle.bench.proofs.main.Tie as tie
@@ -5,11 +6,11 @@ use Rattle.bench.proofs.main.Tie as tie
 arg-count-requires : tie.Need-arg-count-requires
 arg-count-requires c κs = search needs
 
-slice-aggregate-text : tie.Need-slice-aggregate-text
-slice-aggregate-text c = search needs
+slice-aggregate-failure : tie.Need-slice-aggregate-failure
+slice-aggregate-failure c = search needs
 
-text-requires : tie.Need-text-requires
-text-requires c κs = search needs
+failure-requires : tie.Need-failure-requires
+failure-requires c κs = search needs
 
 returns : tie.Need-returns
 returns c = search needs
@@ -75,8 +76,8 @@ main-spec =
     tie.close
     (tie.spec
     arg-count-requires
-    slice-aggregate-text
-    text-requires
+    slice-aggregate-failure
+    failure-requires
     returns
     slice-aggregate-read
     read-requires

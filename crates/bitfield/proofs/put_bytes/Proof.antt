@@ -1,3 +1,4 @@
+-- By the loop's invariant: the buffer is as it was with the first i bytes of the number pasted in at k; all n of them pasted are `put`.
 use Rattle.bitfield.proofs.Laws.{put-paste}
 use borrow.Author.Needs.{needs}
 use native.Mathlib.Omega.{arith}

@@ -1,3 +1,4 @@
+-- By the loop's invariant: v is the value of the first i bits, one more each turn; the two tests before the loop are those of `fieldAt`.
 use borrow.Author.Needs.{needs}
 use native.Mathlib.Omega.{arith}
 use mathlib.Core.Path.{_≡_, ap}

@@ -1,3 +1,4 @@
+-- One case for each verdict of `shape`, both giving `readOf`; the number follows from it, and that it writes back, since the slice holds bytes.
 use mathlib.Core.Path.{sym, _∙_}
 use native.Mathlib.Omega.{arith}
 use Rattle.bitfield.specs.Bits.{AreBytes}

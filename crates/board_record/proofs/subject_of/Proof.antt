@@ -1,3 +1,4 @@
+-- One case for each of the nine states: told which it is, `subjectOf` computes to what is returned.
 use borrow.Author.Needs.{needs}
 use Rattle.board_record.proofs.subject_of.Statement.{statement}
 use Rattle.board_record.proofs.subject_of.Tie as tie

@@ -1,5 +1,5 @@
 -- `step_in_place` meets its contract: it is a door over `agent::step`, by the walk of crates/walks. That what the walk shows is what is
--- promised is `shown`. Assumes nothing.
+-- promised is `shown`, and `answers` for the numbers. Assumes nothing.
 use Prim.Native.Nat.{ℕ}
 use mathlib.Core.Path.{_≡_, refl, sym, subst}
 use mathlib.Core.List.{[], _∷_}

@@ -1,3 +1,4 @@
+-- One case for flags that are all 0 or 1, where the writer's promise says it, and one for 22, where nothing is written.
 use Rattle.flat.specs.Calls.{describedOf, descriptionOf}
 use borrow.Author.Needs.{needs}
 use Rattle.basics.specs.Choice.{by}

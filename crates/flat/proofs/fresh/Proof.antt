@@ -1,3 +1,4 @@
+-- One case for each verdict that `read_board` promises: `freshIn` then computes to what the calls there promise, put together.
 use mathlib.Core.Path.{sym}
 use Rattle.flat.specs.Calls.{freshIn}
 use borrow.Author.Needs.{needs}

@@ -1,3 +1,4 @@
+-- One case for each way of `stepOf`: the agent's step through the conversion, an event of no kind, no record; the calls' promises make it.
 use mathlib.Core.Path.{_≡_, sym, _∙_}
 use mathlib.Core.Bool.{true, false}
 use mathlib.Core.List.{List}

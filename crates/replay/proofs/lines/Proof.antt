@@ -1,3 +1,4 @@
+-- By the loop's invariant: p is what is prepared at place k, and the next p follows (`prepared-next`); that is what `line` asks.
 use Prim.Native.Nat.{_+_, _-_, _≤_}
 use native.Mathlib.Omega.{arith}
 use mathlib.Core.Path.{_≡_, refl, _∙_}

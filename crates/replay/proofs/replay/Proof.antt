@@ -1,3 +1,4 @@
+-- What `lines` and `refused` ask of their caller is what `check_log` promises, in the case that the match names.
 use mathlib.Core.Path.{sym, _∙_}
 use borrow.Author.Needs.{needs}
 use Rattle.replay.proofs.replay.Statement.{statement}

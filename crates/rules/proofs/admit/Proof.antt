@@ -1,3 +1,4 @@
+-- One case for each return: the tests above it are those of `admitted`, in its order; the numbers follow.
 use mathlib.Core.Path.{refl}
 use borrow.Author.Needs.{needs}
 use borrow.Author.Tests.{le-ltb, lt-ltb}

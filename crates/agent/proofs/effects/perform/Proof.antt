@@ -1,3 +1,4 @@
+-- One case for each of the thirteen moves: told which it is, `performOf` computes to what the call there promises.
 use borrow.Author.Needs.{needs}
 use Rattle.agent.proofs.effects.perform.Statement.{statement}
 use Rattle.agent.proofs.effects.perform.Tie as tie

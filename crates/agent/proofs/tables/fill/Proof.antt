@@ -1,3 +1,4 @@
+-- By the loop's invariant: the table is as it was, written at these CPUs among the first i; the places left, if any, lie past its end.
 use Prim.Native.Nat.{_≤_, _-_}
 use mathlib.Core.Path.{_≡_, refl}
 use lib.ListN.{length, length-set}

@@ -1,3 +1,4 @@
+-- One case for each of the thirteen moves: told which it is, `sourceOf` computes to what is returned.
 use borrow.Author.Needs.{needs}
 use Rattle.agent.proofs.tables.source_of.Statement.{statement}
 use Rattle.agent.proofs.tables.source_of.Tie as tie

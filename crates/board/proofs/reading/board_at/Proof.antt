@@ -1,3 +1,4 @@
+-- `boardAt` is what the calls promise, put together; the counts are small enough since their fields are 5 and 6 bits.
 use native.Mathlib.Omega.{arith}
 use Rattle.bitfield.proofs.Laws.{value-lt}
 use Rattle.board.specs.Packed.{boardAt}

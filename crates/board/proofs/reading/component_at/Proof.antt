@@ -1,3 +1,4 @@
+-- `componentAt` is what the calls promise, put together; an SVN is below 2 ^ 32 by its width, so that the remainder is itself.
 use Prim.Native.Nat.{_+_}
 use native.Mathlib.Nat.{mod-eq-of-lt}
 use Rattle.bitfield.proofs.Laws.{value-lt}

@@ -1,3 +1,4 @@
+-- By the loop's invariant: the first i places of the table are read and the rest are blank; at the end i is n.
 use mathlib.Core.Path.{_≡_}
 use Prim.Native.Nat.{_≤_, _-_}
 use native.Mathlib.Omega.{arith}

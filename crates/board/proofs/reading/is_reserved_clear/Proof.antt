@@ -1,3 +1,4 @@
+-- The head's bits first, then by the loop's invariant: those of the first i components are clear; one that isn't clear makes it false.
 use mathlib.Core.Path.{_≡_, sym, _∙_}
 use mathlib.Core.Bool.{true}
 use Prim.Native.Nat.{_≤_, _-_}

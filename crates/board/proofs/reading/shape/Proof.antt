@@ -1,3 +1,4 @@
+-- One case for each return: the tests above it are those of `shapeOf`, in its order, with the count that `components_in` promises.
 use mathlib.Core.Path.{refl}
 use native.Mathlib.Omega.{arith}
 use borrow.Author.Tests.{le-leb, lt-leb}

@@ -1,3 +1,4 @@
+-- By the loop's invariant: the first j bytes are read and the rest are 0; at the end all sixteen are read.
 use mathlib.Core.Path.{_≡_, refl}
 use Prim.Native.Nat.{_≤_, _-_, _+_, _*_}
 use native.Mathlib.Omega.{arith}

@@ -1,3 +1,4 @@
+-- By the loop's invariant: the first i components pass `parted`; one that doesn't makes it false, and at the end all have passed.
 use borrow.Author.Needs.{needs}
 use mathlib.Core.Path.{_≡_}
 use mathlib.Core.Bool.{true}

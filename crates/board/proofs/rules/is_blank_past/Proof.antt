@@ -1,3 +1,4 @@
+-- By the loop's invariant: the first j places past the count are blank; one that isn't makes it false, and at the end all are.
 use borrow.Author.Needs.{needs}
 use mathlib.Core.Path.{_≡_}
 use mathlib.Core.Bool.{true}

@@ -1,3 +1,4 @@
+-- By the loop's invariant: the first i UUIDs differ and their marks are met; an unmet mark's UUID is new, and a met one's is looked for.
 use borrow.Author.Needs.{needs}
 use mathlib.Core.Path.{_≡_}
 use mathlib.Core.Bool.{true}

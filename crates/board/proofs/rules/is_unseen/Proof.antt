@@ -1,3 +1,4 @@
+-- By the loop's invariant: the first j UUIDs are unlike the one at i; one that is the same makes it false, and at the end none is.
 use mathlib.Core.Path.{_≡_, ap}
 use mathlib.Core.Bool.{true, not}
 use Prim.Native.Nat.{_≤_, _-_}

@@ -1,3 +1,4 @@
+-- By the loop's invariant: m is the sum of the first k bytes, at most 255 for each, so it fits; at the end it is that of all sixteen.
 use mathlib.Core.Path.{_≡_, refl}
 use Prim.Native.Nat.{_*_, _≤_, _-_}
 use native.Mathlib.Numerals.{add-one}

@@ -1,3 +1,4 @@
+-- By the loop's invariant: the first k bytes are the same; one that differs makes it false, and at the end all sixteen are the same.
 use mathlib.Core.Path.{_≡_}
 use mathlib.Core.Bool.{true}
 use Prim.Native.Nat.{_≤_, _-_}

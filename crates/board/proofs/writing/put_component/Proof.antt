@@ -1,3 +1,4 @@
+-- Three writes in a row are one (`put-three`), of the component's bytes since each value fits; that a UUID is bytes shows in the buffer.
 use mathlib.Core.Path.{_≡_}
 use native.Mathlib.Omega.{arith}
 use Prim.Native.Nat.{_*_}

@@ -1,3 +1,4 @@
+-- By the loop's invariant: the first i components are written in a row behind the head, and each fits its fields; at the end all n are.
 use mathlib.Core.Path.{_≡_, refl}
 use Prim.Native.Nat.{_≤_, _-_}
 use native.Mathlib.Omega.{arith}

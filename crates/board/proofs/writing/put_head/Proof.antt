@@ -1,3 +1,4 @@
+-- Three writes in a row are one (`put-three`), and it is of the head's bytes (`head-bytes`), since each value fits its field.
 use Prim.Native.Nat.{_*_}
 use native.Mathlib.Omega.{arith}
 use Rattle.bitfield.specs.Layout.{Fit}

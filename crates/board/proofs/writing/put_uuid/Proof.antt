@@ -1,3 +1,4 @@
+-- By the loop's invariant: the buffer is as it was with the first j bytes of the UUID pasted in at k; all sixteen pasted are `put`.
 use mathlib.Core.Path.{_≡_, refl}
 use Prim.Native.Nat.{_≤_, _-_}
 use native.Mathlib.Omega.{arith}

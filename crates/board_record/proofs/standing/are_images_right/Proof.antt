@@ -1,3 +1,4 @@
+-- By the loop's invariant: the first i images stand; one that doesn't makes it false. The component at place i is component i (`capable-at`).
 use borrow.Author.Needs.{needs}
 use borrow.Author.Tests.{lt-ltb}
 use mathlib.Core.Path.{_≡_, _∙_}

@@ -1,3 +1,4 @@
+-- One case for each of the four that `holding_of` may give: `heldStand` then computes to what the call there promises.
 use borrow.Author.Needs.{needs}
 use mathlib.Core.Path.{sym, _∙_}
 use Rattle.board_record.specs.WellFormed.{heldStand}

@@ -1,3 +1,4 @@
+-- One case with a component and one without, as `subject_of` promises: `stateStands` computes to true, or to what the last call promises.
 use borrow.Author.Needs.{needs}
 use mathlib.Core.Path.{sym, _∙_}
 use Rattle.board_record.specs.WellFormed.{stateStands}

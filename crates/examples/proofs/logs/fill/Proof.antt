@@ -1,3 +1,4 @@
+-- By the loop's invariant: the buffer is as long as it was, so each record's place lies in it; of its bytes nothing is promised.
 use Prim.Native.Nat.{_-_, _≤_}
 use mathlib.Core.Path.{_≡_, refl}
 use native.Mathlib.Omega.{arith}

@@ -1,3 +1,4 @@
+-- One case for each outcome: told which it is, `answerOf` computes to what the calls there promise, put together.
 use Rattle.agent.specs.Numbers.{acceptedWith}
 use Rattle.flat.specs.Answers.{answerBy}
 use borrow.Author.Needs.{needs}

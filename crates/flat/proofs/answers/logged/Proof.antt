@@ -1,3 +1,4 @@
+-- One case for each return, as in `loggedIn`: refused, an event of no kind, or what `trace::logged` promises of the answer read back.
 use mathlib.Core.Path.{sym}
 use borrow.Author.Tests.{eq-eqb, ne-eqb}
 use Rattle.basics.specs.Choice.{no, yes}

@@ -1,3 +1,4 @@
+-- One case for each of the reader's three answers: told which it is, `startedBy` computes to what the calls there promise.
 use Rattle.reader.specs.Numbers.{foundWith}
 use Rattle.flat.specs.Answers.{startedWith}
 use borrow.Author.Needs.{needs}

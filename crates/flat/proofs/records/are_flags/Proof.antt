@@ -1,3 +1,4 @@
+-- By the loop's invariant: the first i are 0 or 1; one that isn't makes it false, and at the end all are.
 use mathlib.Core.Path.{_≡_}
 use mathlib.Core.Bool.{true}
 use Prim.Native.Nat.{_≤_, _-_}

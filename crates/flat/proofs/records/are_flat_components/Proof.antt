@@ -1,3 +1,4 @@
+-- By the loop's invariant: the first i have flags that are 0 or 1; one that doesn't makes it false, and at the end all do.
 use mathlib.Core.Path.{_≡_}
 use mathlib.Core.Bool.{true}
 use Prim.Native.Nat.{_≤_, _-_}

@@ -1,3 +1,4 @@
+-- By the loop's invariant: the first i places hold their components and the rest are blank; at the end the table is full.
 use mathlib.Core.Path.{_≡_}
 use Prim.Native.Nat.{_≤_, _-_}
 use lib.ListN.{getD}

@@ -1,3 +1,4 @@
+-- By the loop's invariant: the first i places hold their flags and the rest are false; at the end the table is full.
 use mathlib.Core.Path.{_≡_, refl}
 use Prim.Native.Nat.{_≤_, _-_}
 use lib.ListN.{getD}

@@ -1,3 +1,4 @@
+-- By the loop's invariant: the first i places hold their flags' digits and the rest are 0; at the end the table is full.
 use mathlib.Core.Path.{_≡_, refl}
 use Prim.Native.Nat.{_≤_, _-_}
 use lib.ListN.{getD}

@@ -1,3 +1,4 @@
+-- One case for each return: the tests before it are those of `isFlat`, each by the promise of its call.
 use borrow.Author.Needs.{needs}
 use Rattle.basics.specs.Choice.{by}
 use Rattle.flat.specs.Records.{isFlat}

@@ -1,3 +1,4 @@
+-- One case for each number that the match names, by which `stateIn` computes; any other is past the order, and dead is left.
 use Prim.Native.Nat.{_≤_}
 use native.Mathlib.Omega.{arith}
 use Rattle.flat.proofs.Inverse.{past-order}

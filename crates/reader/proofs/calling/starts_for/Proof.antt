@@ -1,3 +1,4 @@
+-- One case for each return: the tests before it are those of `startsFor`, each by the promise of its call.
 use Rattle.basics.specs.Choice.{by}
 use Rattle.reader.specs.Starts.{startsFor}
 use borrow.Author.Needs.{needs}

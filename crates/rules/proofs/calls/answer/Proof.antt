@@ -1,3 +1,4 @@
+-- One case where `decode` knows the function that X0 names and one where not: each answer is then `answerOf` (`answers`).
 use mathlib.Core.Path.{_≡_}
 use borrow.Author.Needs.{needs}
 use Rattle.board_record.specs.declared.Record.{Record}

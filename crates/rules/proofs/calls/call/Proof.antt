@@ -1,3 +1,4 @@
+-- One case for each return: the tests above it are those of `callOf`, in its order.
 use mathlib.Core.Path.{refl}
 use borrow.Author.Tests.{le-leb, lt-leb}
 use Rattle.basics.specs.Choice.{by, no, yes}

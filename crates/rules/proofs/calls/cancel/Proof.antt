@@ -1,3 +1,4 @@
+-- One case for another component, then one for each cell of the state's row, which `rule` promises: `cancelOf` computes to the answer.
 use Rattle.basics.specs.Choice.{by, no, yes}
 use Rattle.rules.specs.Calls.{cancelOf}
 use borrow.Author.Needs.{needs}

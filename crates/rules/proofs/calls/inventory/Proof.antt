@@ -1,3 +1,4 @@
+-- One case for each return: the tests above it are those of `inventoryOf`, in its order, and what is described is what the calls promise.
 use borrow.Author.Tests.{le-ltb, lt-ltb}
 use Rattle.basics.specs.Choice.{no, yes}
 use Rattle.rules.specs.Calls.{inventoryOf}

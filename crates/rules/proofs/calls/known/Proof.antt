@@ -1,3 +1,4 @@
+-- One case for each of the nine functions: told which it is, `functionOf` computes to what the call there promises.
 use borrow.Author.Needs.{needs}
 use Rattle.rules.proofs.calls.known.Statement.{statement}
 use Rattle.rules.proofs.calls.known.Tie as tie

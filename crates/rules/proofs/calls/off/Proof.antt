@@ -1,3 +1,4 @@
+-- One case for each cell of the state's row, which `rule` promises: `offOf` then computes to what the call there promises.
 use borrow.Author.Needs.{needs}
 use Rattle.rules.proofs.calls.off.Statement.{statement}
 use Rattle.rules.proofs.calls.off.Tie as tie

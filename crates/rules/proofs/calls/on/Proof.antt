@@ -1,3 +1,4 @@
+-- One case for each return: the tests above it are those of `onOf`, in its order.
 use borrow.Author.Tests.{le-leb, lt-leb}
 use Rattle.basics.specs.Choice.{by, no, yes}
 use Rattle.rules.specs.Calls.{onOf}

@@ -1,3 +1,4 @@
+-- One case for each cell of the state's row, which `rule` promises: `primeOf` then computes to what the call there promises.
 use borrow.Author.Needs.{needs}
 use Rattle.rules.proofs.calls.prime.Statement.{statement}
 use Rattle.rules.proofs.calls.prime.Tie as tie

@@ -1,3 +1,4 @@
+-- One case for each return: the tests above it are those of `tryActivateOf`, in its order.
 use borrow.Author.Tests.{eq-eqb, ne-eqb}
 use Rattle.basics.specs.Choice.{by, no, yes}
 use Rattle.rules.specs.Calls.{tryActivateOf}

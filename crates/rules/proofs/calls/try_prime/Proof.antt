@@ -1,3 +1,4 @@
+-- One case for each return: the tests above it are those of `tryPrimeOf`, in its order, of the version and the SVN that the calls promise.
 use borrow.Author.Tests.{le-ltb, lt-ltb}
 use Rattle.basics.specs.Choice.{by, no, yes}
 use Rattle.rules.specs.Calls.{tryPrimeOf}

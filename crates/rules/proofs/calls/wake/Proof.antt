@@ -1,3 +1,4 @@
+-- One case for each cell of the state's row, which `rule` promises: `wakeOf` then computes to what is returned.
 use borrow.Author.Needs.{needs}
 use Rattle.rules.proofs.calls.wake.Statement.{statement}
 use Rattle.rules.proofs.calls.wake.Tie as tie

@@ -1,3 +1,4 @@
+-- By the loop's invariant: w is the value of the last n bytes, lowest first, and below 256 ^ n; at the end it is that of all eight.
 use Prim.Native.Nat.{ℕ, _+_, _-_, _*_, _^_, _≤_}
 use native.Mathlib.Omega.{arith}
 use lib.ListN.{getD}

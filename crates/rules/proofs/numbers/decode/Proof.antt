@@ -1,3 +1,4 @@
+-- One case for each number that the match names, by which `decodeOf` computes; for any other each of its tests is false.
 use mathlib.Core.Path.{sym, _∙_}
 use borrow.Author.Tests.{ne-eqb}
 use Rattle.rules.specs.Numbers.{decodeOf}

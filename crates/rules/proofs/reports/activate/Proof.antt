@@ -1,3 +1,4 @@
+-- One case for each return: the tests above it are those of `activateReportOf`, in its order, each by the promises of its calls.
 use mathlib.Core.Path.{refl}
 use Rattle.basics.specs.Choice.{by, no, yes}
 use Rattle.rules.specs.Reports.{activateReportOf}
