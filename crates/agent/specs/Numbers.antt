@@ -78,7 +78,7 @@ pub record Said : Type 0 where
   pub release : ℕ
   pub freed : Freed
 
--- a refusal "comes with nothing else"
+-- a refusal "comes with nothing else" (Events 21)
 unfoldable pub refusedWith : ℕ → Said
 refusedWith n = record { refusal = n; caller = 0; returned = noRegisters; release = nobody; freed = freedWith noneOf }
 

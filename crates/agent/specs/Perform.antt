@@ -28,7 +28,7 @@ use Rattle.agent.specs.declared.Release.the-variants as release
 use Rattle.agent.specs.declared.Outcome.the-variants.{Refused, Accepted}
 use Rattle.agent.specs.declared.Stepped.{Stepped}
 
--- a refusal "comes with nothing else"
+-- a refusal "comes with nothing else" (Events 21)
 unfoldable pub refusedOf : Record → Refusal → Stepped
 refusedOf r x = record { rec = r; outcome = Refused x }
 
@@ -75,7 +75,7 @@ imagedOf r id pending version = record {
 abbrev pub noteImageOf : Record → Image → Stepped
 noteImageOf r i = acceptedOf (imagedOf r (i .component) true (i .version)) caller.Nothing release.Nobody
 
--- ---- "the caller is held"
+-- ---- "the caller is held" (Calls 20 and 25)
 unfoldable pub joinedOf : Record → State → Arrival → Record
 joinedOf r s a = record {
   board = r .board;
@@ -92,7 +92,7 @@ joinedOf r s a = record {
 abbrev pub heldOf : Record → State → Arrival → Caller → Stepped
 heldOf r s a who = acceptedOf (joinedOf r s a) who release.Nobody
 
--- ---- the held CPUs are released; entries and context ids are "0 elsewhere"
+-- ---- the held CPUs are released; entries and context ids are "0 elsewhere" (Board 3)
 unfoldable pub settledOf : Record → State → Record
 settledOf r s = record {
   board = r .board;

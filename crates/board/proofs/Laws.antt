@@ -157,6 +157,15 @@ typed-long c t =
     let tail = bytes tailLength (join tailWidths (tailValues c)) in
     omega (arith, length-append (c .uuid) tail, length-bytes tailLength (join tailWidths (tailValues c)), t .long)
 
+-- a description is as long as its counts say
+pub length-description : (b : Board) → EachTyped b (b .components) → lengthOf (b .components) ≡ length (bytesOf b)
+unfolding bytesOf headBytes
+length-description b t =
+    let l = length-inTurn (bytesAt b) componentLength (b .components) (λ i k. typed-long (componentOf b i) (t i k)) in
+    let n = length-bytes headLength (join headWidths (headValues b)) in
+    let m = length-append (headBytes b) (inTurn (b .components) (bytesAt b)) in
+    omega arith
+
 -- the ways that a write ends
 module _ (d : List ℕ) (b : Board) where
   pub unwritable : (x : Refusal) → writableOf b ≡ Broken x → (Nothing x ≡ putOf (length d) b) × ((d ≡ bufferOf d b) × (0 ≡ length (partOf d b)))
@@ -177,7 +186,7 @@ module _ (d : List ℕ) (b : Board) where
       let n = length-bytes headLength (join headWidths (headValues b)) in
       let m = length-append (headBytes b) (inTurn (b .components) (bytesAt b)) in (
         no _ (le-ltb _ _ g) refl,
-        (rw (q, p) (put-put d 0 headLength (headBytes b) (inTurn (b .components) (bytesAt b)) (omega arith) (omega arith)), omega arith),
+        (rw (q, p) (put-put d 0 headLength (headBytes b) (inTurn (b .components) (bytesAt b)) (omega arith) (omega arith)), length-description b t),
       )
 
 -- what a write says of its length is so

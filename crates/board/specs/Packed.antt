@@ -32,7 +32,7 @@ headWidths = 5 ∷ 6 ∷ 5 ∷ 64 ∷ 64 ∷ []
 abbrev pub tailWidths : List ℕ
 tailWidths = 1 ∷ 1 ∷ 1 ∷ 5 ∷ 32 ∷ []
 
--- "Length 18 + 21n"
+-- how long it is (Packed 2)
 abbrev pub headLength : ℕ
 headLength = 18
 

@@ -23,7 +23,7 @@ use Rattle.board_record.specs.declared.Record.{Record}
 -- "well formed" (Board 5): counts, flags, UUIDs and range in `boardStands`. What has to be 0: components there, images in
 -- `imagesStand`, CPUs in the sets and `entriesStand`
 
--- the powered CPUs (Board 5): the board has them, and there is one
+-- the powered CPUs (Board 5): the board has them, and there is at least one
 unfoldable pub poweredStand : ℕ → CpuSet → Bool
 poweredStand cpus on = not (sameOf on noneOf) && withinOf on (belowOf cpus)
 

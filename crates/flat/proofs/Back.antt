@@ -1,18 +1,19 @@
 -- What a host writes through the library it reads back through it: a refusal's number is never 0, so the writer took it, and then the
 -- round trips of boards and of log records say it. Assumes nothing.
 use Prim.Native.Nat.{ℕ}
-use mathlib.Core.Path.{_≡_, refl}
+use mathlib.Core.Path.{_≡_, refl, _∙_}
 use mathlib.Core.Bool.{Bool, true, false}
 use native.Mathlib.Omega.{arith}
 use mathlib.Core.List.{List}
 use lib.Dec.{ltb}
-use lib.ListN.{length}
-use borrow.Author.Tests.{eqb-false}
+use lib.ListN.{length, take}
+use borrow.Author.Tests.{eqb-false, ltb-false}
 use Rattle.basics.specs.Choice.{never}
 use Rattle.board.specs.Description.{numberOf as boardNumber}
-use Rattle.board.specs.Packed.{Described, trimmed, lengthOf, writableOf, partOf, putOf as putBoard, bufferOf as boardBuffer}
+use Rattle.board.specs.Packed.{Described, trimmed, lengthOf, bytesOf, writableOf, partOf, putOf as putBoard, bufferOf as boardBuffer}
 use Rattle.board.specs.declared.Ruling.{Ruling}
 use Rattle.board.specs.declared.Ruling.the-variants.{Kept, Broken}
+use Rattle.board.proofs.Laws.{length-description, part-written}
 use Rattle.board.proofs.Numbers.{number-some as board-some}
 use Rattle.board.proofs.Round.{reads-back}
 use Rattle.board_record.specs.Record.{freshOf}
@@ -39,10 +40,19 @@ logged-reads d e a h = go (putOf (length d) (loggedIn e a)) refl
     go (Bytes n) q = rw (put-reads d (loggedIn e a) n q)
     go (Nothing x) q = absurd (eqb-false (numberOf x) 0 (number-some x) (rw q at h))
 
--- a board's description: what was written is the writer's, and a fresh record of that board is made from it
+-- a board's description: from as many bytes of the buffer as were written a fresh record of that board is made
 module _ (d : List ℕ) (f : FlatBoard) (typed : Described (boardIn f)) where
   abbrev Fresh : Type 0
-  Fresh = (descriptionOf d f ≡ boardBuffer d (boardIn f)) × (freshIn (partOf d (boardIn f)) ≡ record { refusal = 0; rec = flatOf (freshOf (trimmed (boardIn f))) })
+  Fresh = freshIn (take (describedOf (length d) f .bytes) (descriptionOf d f)) ≡ record { refusal = 0; rec = flatOf (freshOf (trimmed (boardIn f))) }
+
+  -- what was written, where the writer takes it and there is room
+  part-of : writableOf (boardIn f) ≡ Kept → ltb (length d) (lengthOf (boardIn f .components)) ≡ false
+      → take (lengthOf (boardIn f .components)) (boardBuffer d (boardIn f)) ≡ bytesOf (boardIn f)
+  unfolding putBoard
+  part-of q u =
+      let part : partOf d (boardIn f) ≡ bytesOf (boardIn f) = rw (q, u) in
+      let long = length-description (boardIn f) (typed .each) in
+      part-written d (boardIn f) (lengthOf (boardIn f .components)) (rw part long) (ltb-false (length d) (lengthOf (boardIn f .components)) u) ∙ part
 
   pub described-fresh : describedOf (length d) f .refusal ≡ 0 → Fresh
   unfolding describedOf descriptionOf freshIn putBoard
@@ -52,4 +62,4 @@ module _ (d : List ℕ) (f : FlatBoard) (typed : Described (boardIn f)) where
       go false p v q t u h = let same : _≡_ {A = ℕ} 22 0 = rw p at h in never (omega arith)
       go true p (Broken x) q t u h = absurd (eqb-false (boardNumber x) 0 (board-some x) (rw (p, q) at h))
       go true p Kept q true u h = let same : _≡_ {A = ℕ} 27 0 = rw (p, q, u) at h in never (omega arith)
-      go true p Kept q false u h = (rw p, rw (q, u, reads-back (boardIn f) typed q))
+      go true p Kept q false u h = rw (p, q, u, part-of q u, reads-back (boardIn f) typed q)

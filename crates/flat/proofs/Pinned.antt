@@ -1,4 +1,4 @@
--- Each public function's promise leaves one outcome. Assumes nothing.
+-- Each public function's promise leaves one outcome: any two that it allows are both what it names. Assumes nothing.
 use Rattle.basics.proofs.Pin.{OneOutcome, same, just}
 use Rattle.flat.proofs.abi.Kinds as abi-kinds
 use Rattle.flat.proofs.abi.Reads as abi-reads

@@ -2,7 +2,6 @@
 use Prim.Native.Nat.{ℕ}
 use lib.Dec.{eqb}
 use Rattle.basics.specs.Choice.{pick}
-use Rattle.rules.specs.declared.Event.the-variants as event
 use Rattle.rules.specs.declared.Registers.{Registers}
 use Rattle.agent.specs.Numbers.{withStatus, byEntry, Said, refusedWith, saidOf}
 use Rattle.agent.specs.declared.Answer.{Answer}
@@ -13,7 +12,7 @@ use Rattle.agent.specs.declared.Outcome.{Outcome}
 use Rattle.agent.specs.declared.Release.{Release}
 use Rattle.agent.specs.declared.Release.the-variants as release
 use Rattle.codes.specs.Outcomes.{returned, held, primeStarted, activationStarted, gone}
-use Rattle.log_record.specs.Rules.{callKind, primeKind, activateKind, imageKind, numberOf as logNumber}
+use Rattle.log_record.specs.Rules.{numberOf as logNumber}
 use Rattle.board.specs.Packed.{lengthIn as boardLength}
 use Rattle.board.specs.Numbers.{refusalIn as boardRefusal}
 use Rattle.board.specs.declared.Written.{Written as BoardWritten}
@@ -30,7 +29,7 @@ use Rattle.logbook.specs.declared.Primed.{Primed}
 use Rattle.reader.specs.Numbers.{foundIn as startedIn, componentIn as startedComponent, Numbers as StartNumbers, refusedWith as notStartedWith, numbersOf as startNumbers}
 use Rattle.reader.specs.declared.Answer.{Answer as StartAnswer}
 use Rattle.reader.specs.declared.Started.{Started}
-use Rattle.trace.specs.Logged.{loggedOf}
+use Rattle.trace.specs.Logged.{loggedOf, ofKind}
 use Rattle.flat.specs.declared.FlatAnswer.{FlatAnswer}
 use Rattle.flat.specs.declared.FlatEvent.{FlatEvent}
 use Rattle.flat.specs.declared.FlatFound.{FlatFound}
@@ -43,18 +42,13 @@ use Rattle.trace.specs.declared.Read.the-variants.{Known, Unknown}
 
 -- ---- events: kinds as the log numbers them (Packed 3)
 abbrev pub eventIn : FlatEvent → Read
-eventIn e =
-    pick (eqb (e .kind) callKind) (Known (event.Call (e .call)))
-    (pick (eqb (e .kind) primeKind) (Known (event.Prime (e .report)))
-    (pick (eqb (e .kind) activateKind) (Known (event.Activate (e .report)))
-    (pick (eqb (e .kind) imageKind) (Known (event.Image (e .image)))
-    Unknown)))
+eventIn e = ofKind (e .kind) (e .call) (e .report) (e .image)
 
 -- ---- answers: the agent's numbers as they cross
 unfoldable pub answerBy : Said → FlatAnswer
 answerBy s = record { refusal = s .refusal; caller = s .caller; returned = s .returned; release = s .release; freed = s .freed }
 
--- a refusal "comes with nothing else"
+-- a refusal "comes with nothing else" (Events 21)
 abbrev pub refusedAnswer : ℕ → FlatAnswer
 refusedAnswer n = answerBy (refusedWith n)
 

@@ -1,6 +1,6 @@
 -- A board's record as numbers, and back. A flag that is neither 0 nor 1, or a state that isn't one, makes it not well formed.
 -- Assumes nothing.
-use Prim.Native.Nat.{ℕ}
+use Prim.Native.Nat.{ℕ, min}
 use mathlib.Core.Bool.{Bool, false, _&&_}
 use mathlib.Core.List.{List, []}
 use lib.Dec.{eqb, leb, ltb}
@@ -102,11 +102,8 @@ boardIn b = record {
 }
 
 -- every flag within the count is 0 or 1; of a count above the limit, every flag of the table
-abbrev pub withinCount : ℕ → ℕ
-withinCount n = pick (ltb n mostComponents) n mostComponents
-
 unfoldable pub hasFlags : FlatBoard → Bool
-hasFlags b = areFlatComponents (withinCount (b .components)) (b .component)
+hasFlags b = areFlatComponents (min (b .components) mostComponents) (b .component)
 
 -- a record with its board's numbers
 unfoldable pub flatWith : FlatBoard → Record → FlatRecord

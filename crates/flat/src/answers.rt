@@ -22,18 +22,13 @@ use codes::GONE;
 use codes::HELD;
 use codes::PRIME_STARTED;
 use codes::RETURNED;
-use log_record::ACTIVATE_REPORT;
-use log_record::CALL;
-use log_record::IMAGE;
 use log_record::LogRecord;
-use log_record::PRIME_REPORT;
 use log_record::RECORD_BYTES;
 use log_record::ReadRecord;
 use log_record::Written;
 use logbook::Flaw;
 use logbook::Primed;
 use reader::Started;
-use rules::Event;
 use rules::Registers;
 use trace::Read;
 ghost use mathlib.Core.Path.{_≡_};
@@ -43,17 +38,10 @@ ghost use Rattle.flat.specs.Calls.{keptWith, throughOf};
 pub(crate) fn event(e: FlatEvent) -> Read
     ensures { λ r. ⌜ r ≡ eventIn e ⌝ }
 {
-    let kind = e.kind;
     let call = e.call;
     let report = e.report;
     let image = e.image;
-    match kind {
-        CALL => Read::Known(Event::Call(call)),
-        PRIME_REPORT => Read::Known(Event::Prime(report)),
-        ACTIVATE_REPORT => Read::Known(Event::Activate(report)),
-        IMAGE => Read::Known(Event::Image(image)),
-        _ => Read::Unknown,
-    }
+    trace::event_of_kind(e.kind, call, report, image)
 }
 
 // A refusal, and nothing else.

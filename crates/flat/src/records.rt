@@ -12,14 +12,11 @@ use board_record::STATES;
 use board_record::State;
 use board_record::Subject;
 ghost use mathlib.Core.Path.{_≡_};
-ghost use Prim.Native.Nat.{_≤_};
+ghost use Prim.Native.Nat.{_≤_, min};
 ghost use Rattle.board.specs.Description.{mostComponents};
 ghost use Rattle.board.specs.Packed.{digitOf};
 ghost use Rattle.board_record.specs.Record.{subjectNumber};
-ghost use Rattle.flat.specs.Records.{stateIn, isState, flatComponent, componentIn, isFlatComponent, blankFlat, flatComponents, componentsIn, areFlatComponents, withinCount, hasFlags, flatFlags, flagsIn, areFlags, flatBoard, boardIn, flatWith, flatOf, recordIn, isFlat, zeroRecord};
-
-// The number of idle.
-const IDLE: u64 = 0;
+ghost use Rattle.flat.specs.Records.{stateIn, isState, flatComponent, componentIn, isFlatComponent, blankFlat, flatComponents, componentsIn, areFlatComponents, hasFlags, flatFlags, flagsIn, areFlags, flatBoard, boardIn, flatWith, flatOf, recordIn, isFlat, zeroRecord};
 
 fn digit(b: bool) -> u8
     ensures { λ r. ⌜ r ≡ digitOf b ⌝ }
@@ -41,7 +38,7 @@ fn state(number: u64, c: u64) -> State
     ensures { λ s. ⌜ s ≡ stateIn number c ⌝ }
 {
     match number {
-        IDLE => State::Idle,
+        0 => State::Idle,
         1 => State::Preparing(c),
         2 => State::HalfPrepared(c),
         3 => State::Ready(c),
@@ -205,8 +202,7 @@ fn flat_board(b: Board) -> FlatBoard
 
 // How many places of the table a count names.
 fn within_count(n: u64) -> usize
-    ensures { λ r. ⌜ r ≡ withinCount n ⌝ }
-    ensures { λ r. ⌜ r ≤ mostComponents ⌝ }
+    ensures { λ r. ⌜ r ≡ min n mostComponents ⌝ }
 {
     if n < MOST_COMPONENTS as u64 {
         n as usize
@@ -322,7 +318,7 @@ pub(crate) fn zeros() -> FlatRecord
         },
         pending: [0; MOST_COMPONENTS],
         version: [0; MOST_COMPONENTS],
-        state: IDLE,
+        state: 0,
         subject: 0,
         on: cpuset::none(),
         held: cpuset::none(),

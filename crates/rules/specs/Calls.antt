@@ -46,7 +46,7 @@ returned x0 = Return (record { x0 = x0; x1 = 0; x2 = 0; x3 = 0 })
 abbrev pub says : ℕ → Move
 says k = returned (minusOf k)
 
--- "no caller exists" in together: on a well-formed record no call comes to this (`never-nine` of the agent)
+-- "no caller exists" in together (Calls 16): on a well-formed record no call comes to this (`never-nine` of the agent)
 abbrev pub noCaller : Move
 noCaller = Refuse NotWellFormed
 
@@ -105,7 +105,7 @@ tryPrimeOf r call =
     (StartPrime (arrivalOf call false)))
     (says 7)
 
--- "not the half-prepared one": -7
+-- "not the half-prepared one" (Calls 20): -7
 unfoldable pub trySameOf : Record → Call → Move
 trySameOf r call = pick (isFor (r .state) (call .x1)) (tryPrimeOf r call) (says 7)
 
@@ -187,7 +187,7 @@ offBy power.NoCaller r cpu = noCaller
 abbrev pub offOf : Record → ℕ → Move
 offOf r cpu = offBy (ruleOf (r .state) .power) r cpu
 
--- ---- CPU_ON: -2, -9, -4, -6 in this order (Calls 30, H)
+-- ---- CPU_ON: -2, -9, -4, and -6 (H), in this order (Calls 30)
 abbrev pub wakeBy : PowerCell → Call → Move
 wakeBy power.Free call = PowerOn (record { target = call .x1; entry = call .x2; context = call .x3 })
 wakeBy power.Frozen call = says 6

@@ -31,7 +31,7 @@ pub record Numbers : Type 0 where
   pub outcome : ℕ
   pub given : ℕ
 
--- a refusal "comes with nothing else"
+-- a refusal "comes with nothing else" (Events 21)
 unfoldable pub refusedWith : ℕ → Numbers
 refusedWith n = record { refusal = n; outcome = 0; given = 0 }
 

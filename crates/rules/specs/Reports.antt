@@ -16,11 +16,11 @@ use Rattle.rules.specs.declared.Refusal.the-variants.{NoSuchJob, CodeNot
 use Rattle.rules.specs.declared.Move.{Move}
 use Rattle.rules.specs.declared.Move.the-variants.{Refuse, EndPrime, EndActivate, NoteImage}
 
--- "preparing (job)": a prime job is running for component id
+-- "preparing (job)" (Calls 12): a prime job is running for component id
 abbrev pub isPriming : State → ℕ → Bool
 isPriming s id = isPreparing s && isFor s id
 
--- "together (job)", "alone (job)": an activate job is
+-- "together (job)", "alone (job)" (Calls 16 and 17): an activate job is
 abbrev pub isActivating : State → ℕ → Bool
 isActivating s id = oneOf (placeOf s) (togetherPlace ∷ alonePlace ∷ []) && isFor s id
 

@@ -1,4 +1,4 @@
--- One case for each verdict of `writable`: refused, nothing is written; accepted, `put_writable` goes by the room, and it reads back.
+-- One case for each ruling of `writable`: broken, nothing is written; kept, `put_writable` goes by the room, and it reads back.
 use mathlib.Core.Path.{sym, _∙_}
 use lib.ListN.{length}
 use Rattle.board.proofs.Laws.{writable-passes, unwritable, by-room}

@@ -1,4 +1,4 @@
--- By what comes before the event's own rules (`admission`), then by the kind of event; the numbers follow from that (`decided`).
+-- By what comes before the event's own rules (`admit`), then by the kind of event; the numbers follow from that (`decided`).
 use Prim.Native.Nat.{ℕ}
 use mathlib.Core.Path.{_≡_, refl, sym, _∙_}
 use borrow.Author.Needs.{needs}

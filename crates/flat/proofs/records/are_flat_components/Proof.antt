@@ -6,7 +6,6 @@ use lib.ListN.{getD}
 use borrow.Author.Needs.{needs}
 use Rattle.basics.specs.Every.{allBelow, all-none, all-more, all-fails, all-done}
 use Rattle.basics.specs.Choice.{by}
-use Rattle.board.specs.Description.{mostComponents}
 use Rattle.flat.specs.Records.{isFlatComponent, absentFlat}
 use Rattle.flat.proofs.records.are_flat_components.Statement.{statement}
 use Rattle.flat.proofs.records.are_flat_components.Tie as tie

@@ -11,7 +11,7 @@ are-flat-components-requires c κs = search needs
 
 returns : tie.Need-returns
 unfolding hasFlags
-returns c = rw (c .are-flat-components .ensures, c .before .within-count .ensures .0)
+returns c = rw (c .are-flat-components .ensures, c .before .within-count .ensures)
 
 pub has-flags-spec : {M : Type 1} → statement M
 has-flags-spec = tie.close (tie.spec within-count-requires are-flat-components-requires returns)
