@@ -1,4 +1,4 @@
--- What a well-formed record tells, fact by fact, and how it is shown: the test is an `and` of clauses, and all follows from them.
+-- What a well-formed record tells, fact by fact, and how it is shown: the test is a conjunction of clauses, and all follows from them.
 -- Assumes nothing.
 use Prim.Native.Nat.{ℕ, _<_}
 use mathlib.Core.Path.{_≡_, ap, _∙_}
