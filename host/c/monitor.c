@@ -23,7 +23,7 @@ static size_t records_to_release(const struct lfa_record *r)
 {
     if (r->held.bits == 0) return 0;
     size_t records = 1;
-    for (uint64_t cpu = 0; cpu < LFA_MOST_CPUS; cpu++) records += (r->on.bits & ~r->held.bits) >> cpu & 1;
+    for (uint64_t runs = r->on.bits & ~r->held.bits; runs != 0; runs &= runs - 1) records++;
     return records;
 }
 

@@ -51,7 +51,7 @@ static const struct lfa_event LAST_RENDEZVOUS[] = {
     {.kind = LFA_KIND_ACTIVATE_REPORT, .report = {.component = UPDATED, .code = LFA_CODE_DONE}},
     {.kind = LFA_KIND_CALL, .call = {.cpu = 0, .x0 = LFA_FUNCTION_VERSION}},
     {.kind = LFA_KIND_CALL, .call = {.cpu = 0, .x0 = LFA_FUNCTION_CPU_ON, .x1 = 1, .x2 = 0x1000}},
-    {.kind = LFA_KIND_CALL, .call = {.cpu = 1, .x0 = LFA_FUNCTION_CPU_OFF}},
+    {.kind = LFA_KIND_CALL, .call = {.cpu = 1, .x0 = LFA_FUNCTION_CPU_OFF | UINT64_C(1) << 32}},
 };
 
 /* The same for a PRIME. */
