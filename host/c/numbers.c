@@ -131,7 +131,7 @@ static void boards(const struct monitor *m)
     line("to write a flag of 2", lfa_describe(room, sizeof room, b).refusal);
 }
 
-static void logs(struct monitor *m)
+static void log_records(void)
 {
     uint8_t record[LFA_LOG_RECORD_BYTES];
     struct lfa_event image = IMAGE(0, 5);
@@ -143,10 +143,19 @@ static void logs(struct monitor *m)
     line("word 6 of an image", lfa_read_record(record, sizeof record).refusal);
     record[0] = 0;
     line("no kind", lfa_read_record(record, sizeof record).refusal);
-    memset(m->log, 0, sizeof m->log);
-    for (size_t i = 0; i < LFA_MOST_LOG_RECORDS; i++) lfa_log(m->log + i * LFA_LOG_RECORD_BYTES, sizeof record, image, none);
-    line("a log of the most records", lfa_prepared(m->log, sizeof m->log, LFA_MOST_LOG_RECORDS).refusal);
-    line("a place behind them", lfa_prepared(m->log, sizeof m->log, LFA_MOST_LOG_RECORDS + 1).refusal);
+}
+
+/* Questions to a log of the most records, and to one of a record more. */
+static void long_logs(void)
+{
+    static uint8_t log[(LFA_MOST_LOG_RECORDS + 1) * LFA_LOG_RECORD_BYTES];
+    struct lfa_event image = IMAGE(0, 5);
+    struct lfa_answer none = {.refusal = LFA_REFUSAL_NONE};
+    for (size_t at = 0; at < sizeof log; at += LFA_LOG_RECORD_BYTES) lfa_log(log + at, sizeof log - at, image, none);
+    size_t most = sizeof log - LFA_LOG_RECORD_BYTES;
+    line("a log of the most records", lfa_prepared(log, most, LFA_MOST_LOG_RECORDS).refusal);
+    line("a place behind them", lfa_prepared(log, most, LFA_MOST_LOG_RECORDS + 1).refusal);
+    line("a log of a record more", lfa_prepared(log, sizeof log, 0).refusal);
 }
 
 static void events(struct monitor *m)
@@ -165,6 +174,7 @@ int main(void)
     for (size_t i = 0; i < sizeof RUN / sizeof *RUN; i++) tell(&m, &RUN[i]);
     events(&m);
     boards(&m);
-    logs(&m);
+    log_records();
+    long_logs();
     return all_stood() ? 0 : 1;
 }

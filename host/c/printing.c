@@ -123,12 +123,10 @@ static void print_x0(uint64_t x0)
     printf("%" PRIu64, x0);
 }
 
-static void print_inventory_flags(uint64_t x3)
+/* The name of a flag of an inventory, if X3 has it. */
+static void print_flag(uint64_t x3, uint64_t flag, const char *name)
 {
-    if (x3 & LFA_INVENTORY_CAPABLE) printf(" capable");
-    if (x3 & LFA_INVENTORY_PENDING) printf(" pending");
-    if (x3 & LFA_INVENTORY_MAY_RESET) printf(" may_reset");
-    if (x3 & LFA_INVENTORY_OPTIONAL) printf(" optional");
+    if ((x3 & flag) == flag) printf(" %s", name);
 }
 
 /* ---- The platform ---- */
@@ -164,7 +162,10 @@ void platform_return(uint64_t cpu, struct lfa_registers x)
     printf(" CPU %" PRIu64 " goes on with X0 = ", cpu);
     print_x0(x.x0);
     printf(", X1 = %" PRIu64, x.x1);
-    print_inventory_flags(x.x3);
+    print_flag(x.x3, LFA_INVENTORY_CAPABLE, "capable");
+    print_flag(x.x3, LFA_INVENTORY_PENDING, "pending");
+    print_flag(x.x3, LFA_INVENTORY_MAY_RESET, "may_reset");
+    print_flag(x.x3, LFA_INVENTORY_OPTIONAL, "optional");
     printf(";");
 }
 
