@@ -65,7 +65,10 @@ void platform_switch_off(uint64_t cpu);
 /* The job starts beside CPUs that run; its end arrives as a report of the same component. */
 void platform_prime(uint64_t component);
 
-/* The same, but its work begins only when every one of these CPUs stands: at this call the last of them never does. */
+/*
+ * The same, but its work begins only when every one of these CPUs stands, and every CPU that was told to switch off is off. At this
+ * call the last of them is still in monitor_handle, and others may be on their way.
+ */
 void platform_activate(uint64_t component, struct lfa_cpus waiting);
 
 #endif

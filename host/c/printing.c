@@ -131,8 +131,8 @@ static void print_flag(uint64_t x3, uint64_t flag, const char *name)
 
 /* ---- The platform ---- */
 
-/* The CPUs that were told to wait, and those of them that stand. */
-static uint64_t told_to_wait, standing;
+/* The CPUs that were told to wait, those of them that stand, and those that were told to switch off and are not off yet. */
+static uint64_t told_to_wait, standing, going_off;
 
 /* The activate job that was told to start and has not begun. */
 static struct {
@@ -184,6 +184,7 @@ void platform_hold(uint64_t cpu)
 void platform_switch_off(uint64_t cpu)
 {
     leaves(cpu);
+    going_off |= only(cpu);
     printf(" CPU %" PRIu64 " is switched off;", cpu);
 }
 
@@ -195,7 +196,7 @@ void platform_prime(uint64_t component)
 /* The job begins as soon as the CPUs that it was given stand; whether all do is known here, whatever it was given. */
 static void begin_if_all_stand(void)
 {
-    if (!job.told || job.waiting & ~standing) return;
+    if (!job.told || job.waiting & ~standing || going_off) return;
     job.told = 0;
     printf(" activation of component %" PRIu64 " begins;", job.component);
     if (told_to_wait & ~standing) begun_too_early = 1;
@@ -221,6 +222,7 @@ void tell(struct monitor *m, const struct lfa_event *e)
     print_event(e);
     uint64_t refusal = monitor_handle(m, *e);
     standing = told_to_wait;
+    going_off = 0;
     begin_if_all_stand();
     if (refusal != LFA_REFUSAL_NONE) print_refusal(refusal);
     printf(" %s\n", WORD(STATES, m->rec.state));

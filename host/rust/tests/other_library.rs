@@ -2,9 +2,7 @@
 
 use std::panic::{catch_unwind, AssertUnwindSafe};
 
-use lfa::flat::{
-    self, Abi, Answer, Board, Call, Cpus, Event, Record, MOST_COMPONENTS, MOST_CPUS,
-};
+use lfa::flat::{self, Abi, Answer, Board, Call, Cpus, Event, Record, MOST_COMPONENTS, MOST_CPUS};
 
 /// A record of zeros.
 fn zeros() -> Record {
