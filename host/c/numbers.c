@@ -161,6 +161,10 @@ static void long_logs(void)
 static void events(struct monitor *m)
 {
     struct lfa_event version = CALL(0, VERSION, .x1 = 0);
+    struct lfa_event image = IMAGE(SKIPS, 5);
+    struct lfa_answer a = lfa_step(&m->rec, image, m->entries, LFA_MOST_CPUS, m->contexts, LFA_MOST_CPUS);
+    printf("an image has %s caller and releases %s\n", a.caller == LFA_CALLER_NONE ? "no" : "a",
+           a.release == LFA_RELEASE_NOBODY ? "nobody" : "CPUs");
     line("a table of 63", lfa_step(&m->rec, version, m->entries, LFA_MOST_CPUS - 1, m->contexts, LFA_MOST_CPUS).refusal);
     m->rec.informed = 2;
     tell(m, &version);
