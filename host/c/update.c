@@ -15,7 +15,7 @@ enum { LAST_ARRIVAL = 6, LAST_ARRIVAL_PLACE = 5 };
 /* Both components are capable, and the one to update may reset. */
 static const struct lfa_board BOARD = {
     .components = 2,
-    .cpus = 2,
+    .cpus = 3,
     .first = 0x1000,
     .last = 0x1FFF,
     .component = {{.uuid = {0xA0}, .svn = 5, .capable = 1}, {.uuid = {0xA1}, .svn = 5, .capable = 1, .may_reset = 1}},
@@ -33,9 +33,10 @@ static const struct lfa_event UPDATE[] = {
     {.kind = LFA_KIND_CALL, .call = {.cpu = 1, .x0 = LFA_FUNCTION_CPU_OFF}},
 };
 
-/* The next update, up to its rendezvous. */
+/* The next update, of three CPUs, up to its rendezvous. */
 static const struct lfa_event PREPARE[] = {
     {.kind = LFA_KIND_CALL, .call = {.cpu = 0, .x0 = LFA_FUNCTION_CPU_ON, .x1 = 1, .x2 = 0x1000, .x3 = 0xC1}},
+    {.kind = LFA_KIND_CALL, .call = {.cpu = 0, .x0 = LFA_FUNCTION_CPU_ON, .x1 = 2, .x2 = 0x1000, .x3 = 0xC2}},
     {.kind = LFA_KIND_IMAGE, .image = {.component = UPDATED, .version = 6}},
     {.kind = LFA_KIND_CALL, .call = {.cpu = 0, .x0 = LFA_FUNCTION_PRIME, .x1 = UPDATED}},
     {.kind = LFA_KIND_PRIME_REPORT, .report = {.component = UPDATED, .code = LFA_CODE_DONE}},
@@ -47,6 +48,7 @@ static const struct lfa_event LAST_RENDEZVOUS[] = {
     {.kind = LFA_KIND_CALL, .call = {.cpu = 1, .x0 = LFA_FUNCTION_VERSION}},
     {.kind = LFA_KIND_IMAGE, .image = {.component = OTHER, .version = 7}},
     {.kind = LFA_KIND_CALL, .call = {.cpu = 1, .x0 = LFA_FUNCTION_ACTIVATE, .x1 = UPDATED, .x3 = 0x1200, .x4 = 0xB1}},
+    {.kind = LFA_KIND_CALL, .call = {.cpu = 2, .x0 = LFA_FUNCTION_ACTIVATE, .x1 = UPDATED, .x3 = 0x1300, .x4 = 0xB2}},
     {.kind = LFA_KIND_IMAGE, .image = {.component = OTHER, .version = 7}},
     {.kind = LFA_KIND_ACTIVATE_REPORT, .report = {.component = UPDATED, .code = LFA_CODE_DONE}},
     {.kind = LFA_KIND_CALL, .call = {.cpu = 0, .x0 = LFA_FUNCTION_VERSION}},
@@ -111,7 +113,7 @@ int main(void)
     TELL_ALL(&m, UPDATE);
     int answered = read_back(&m) && ask(&m);
     TELL_ALL(&m, PREPARE);
-    fill(&m, 3);
+    fill(&m, 4);
     TELL_ALL(&m, LAST_RENDEZVOUS);
     if (monitor_start(&m, &BOARD) != LFA_REFUSAL_NONE) return 1;
     fill(&m, 2);
