@@ -21,6 +21,8 @@
  * - The record is writable, even where the event is refused: it is stored again as it was.
  * - The record, the two tables and the buffers that a call is lent do not overlap.
  * - One call at a time for a record: the library takes no lock.
+ * - Its CPUs do what an answer says. One that is held waits until a release names it, even one that comes before it waits; and an
+ *   activation's work begins only when every held CPU stands and every CPU that is gone is off (host/c/monitor.h).
  * - A record that is stored stays with its LFA_ABI and on hosts of this byte order: another library may take its bytes for others.
  *   Board descriptions and logs are the same bytes everywhere.
  *

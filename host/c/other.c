@@ -1,4 +1,4 @@
-/* A library of another ABI number: its functions are there and do nothing. A host that calls one of them did not ask which it is. */
+/* A library of another ABI number, whose functions do nothing: a host that calls one of them did not ask which library it is. */
 #include "lfa.h"
 
 struct lfa_abi lfa_abi(void)
