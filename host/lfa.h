@@ -42,7 +42,7 @@
 #include <stddef.h>
 #include <stdint.h>
 
-#if !defined(__x86_64__) || defined(_WIN32)
+#if !defined(__x86_64__) || defined(_WIN32) || defined(__CYGWIN__)
 #error "lfa.h: the library is for x86-64 and the System V calling convention"
 #endif
 #if SIZE_MAX != UINT64_MAX

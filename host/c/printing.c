@@ -123,10 +123,25 @@ static void print_x0(uint64_t x0)
     printf("%" PRIu64, x0);
 }
 
-/* The name of a flag of an inventory, if X3 has it. */
-static void print_flag(uint64_t x3, uint64_t flag, const char *name)
+/* The flags of an inventory, which together are all of X3. */
+static void print_flags(uint64_t x3)
 {
-    if ((x3 & flag) == flag) printf(" %s", name);
+    static const struct {
+        uint64_t flag;
+        const char *name;
+    } FLAGS[] = {
+        {LFA_INVENTORY_CAPABLE, "capable"},
+        {LFA_INVENTORY_PENDING, "pending"},
+        {LFA_INVENTORY_MAY_RESET, "may_reset"},
+        {LFA_INVENTORY_OPTIONAL, "optional"},
+    };
+    uint64_t rest = x3;
+    for (size_t i = 0; i < sizeof FLAGS / sizeof *FLAGS; i++) {
+        if ((x3 & FLAGS[i].flag) != FLAGS[i].flag) continue;
+        printf(" %s", FLAGS[i].name);
+        rest -= FLAGS[i].flag;
+    }
+    if (rest != 0) printf(" and %" PRIu64, rest);
 }
 
 /* ---- The platform ---- */
@@ -162,10 +177,7 @@ void platform_return(uint64_t cpu, struct lfa_registers x)
     printf(" CPU %" PRIu64 " goes on with X0 = ", cpu);
     print_x0(x.x0);
     printf(", X1 = %" PRIu64, x.x1);
-    print_flag(x.x3, LFA_INVENTORY_CAPABLE, "capable");
-    print_flag(x.x3, LFA_INVENTORY_PENDING, "pending");
-    print_flag(x.x3, LFA_INVENTORY_MAY_RESET, "may_reset");
-    print_flag(x.x3, LFA_INVENTORY_OPTIONAL, "optional");
+    print_flags(x.x3);
     printf(";");
 }
 
