@@ -1,7 +1,7 @@
 //! What crosses to the library: numbers, arrays of numbers, and structs of these, as `lfa.h` has them.
 //!
-//! Every function here is safe: references are all that the library asks for, and whatever the numbers are, it gives a stated
-//! answer. Before the first call each of them looks whether the library is the one that these structs are for ([`Abi`]).
+//! Every function here is safe: references are all that the library asks of pointers, and whatever the numbers are, it gives a
+//! stated answer. Before the first call each of them looks whether the library is the one that these structs are for ([`Abi`]).
 
 use core::mem::size_of;
 use core::sync::atomic::{AtomicBool, Ordering};
