@@ -27,15 +27,16 @@ uint64_t monitor_start(struct monitor *m, const struct lfa_board *board);
 
 /*
  * One event: a call that trapped, a job's report, or an image. 0 where it was taken: it is logged, and the platform was told what
- * its CPUs do. Else nothing changed, and it gives an enum lfa_refusal (LFA_REFUSAL_NO_ROOM where the log has no room, else what
- * lfa_step gives) or MONITOR_OTHER_LIBRARY. A CPU whose call was not taken is told what the record says of it:
+ * its CPUs do. Else nothing changed, and it gives an enum lfa_refusal (LFA_REFUSAL_NO_ROOM where the log has no room, which the
+ * end of a job always has, else what lfa_step gives) or MONITOR_OTHER_LIBRARY. A CPU whose call was not taken is told what the
+ * record says of it:
  * - no room: it goes on with a status that means "not now", and may call again. It runs and nobody counts on it.
  * - CPU off: it is switched off. As long as it runs, a swap could begin beside it.
  * - CPU held: it waits on. Its release will come.
  * - no such CPU, and all else: it waits for good, since nothing is known of it. Look for the fault.
  *
  * One event at a time: take the monitor's lock around it. A call is handled on the CPU that makes it. Reports and images are
- * handled where no CPU of the board has to go on for it: on a core of the platform, or in an interrupt that leaves a CPU that
+ * handled where no CPU of the board has to go on for them: on a core of the platform, or in an interrupt that leaves a CPU that
  * waits where it stands. In a rendezvous all powered CPUs wait, and only a report lets them go.
  */
 uint64_t monitor_handle(struct monitor *m, struct lfa_event e);
