@@ -17,7 +17,7 @@ uint64_t monitor_start(struct monitor *m, const struct lfa_board *board)
 /*
  * How many records it takes until nobody waits: a call of each powered CPU that is still to arrive, and the report. An event is
  * taken only where it leaves room for these. So each of them is taken, since it leaves one less, and so is a CANCEL, which leaves
- * none. (Before a rendezvous it is the report alone, and room is kept for more.)
+ * none. (In preparing and alone the report would do; room is kept for more.)
  */
 static size_t records_to_release(const struct lfa_record *r)
 {
