@@ -9,6 +9,7 @@
  * What the host owes:
  * - It asks lfa_fits before anything else. A library that was built for another record would write past this one.
  * - It is an x86-64 host where size_t has 8 bytes, its structs are not packed, and it calls by the System V convention of x86-64.
+ *   gcc and clang do so by LFA_CALL, whatever their own convention is; with another compiler the host sees to it.
  * - Its stack is aligned to 16 bytes at a call, as that convention has it, and has room for what LFA_STACK_ says.
  * - SSE2 is switched on, and xmm0 to xmm15 are the library's during a call: the host saves them for whoever it serves. No other
  *   floating-point or vector register is touched.
@@ -20,13 +21,18 @@
  * - The record is writable, even where the event is refused: it is stored again as it was.
  * - The record, the two tables and the buffers that a call is lent do not overlap.
  * - One call at a time for a record: the library takes no lock.
+ * - Its CPUs do what an answer says. One that is held waits until a release names it, even one that comes before it waits; and an
+ *   activation's work begins only when every held CPU stands and every CPU that is gone is off (host/c/monitor.h).
  * - A record that is stored stays with its LFA_ABI and on hosts of this byte order: another library may take its bytes for others.
  *   Board descriptions and logs are the same bytes everywhere.
  *
- * How to log: an event that lfa_step accepted can't be taken back. So look for room for a record (LFA_LOG_RECORD_BYTES) first, and
- * where there is none keep the event back; where there is, lfa_log writes whatever lfa_step accepted. With LFA_MOST_LOG_RECORDS
- * records a log is full: store it away, and begin the next one with a board that starts fresh. Both questions read a log from a
- * fresh board on, so of a log that begins later they know too little; lfa_read_record reads any.
+ * How to log: an event that lfa_step accepted can't be taken back, and a log that ends while CPUs wait would leave them waiting:
+ * the report that lets them go could not be logged. So step a copy of the record, and keep the copy only where the log has room
+ * for this event's record (LFA_LOG_RECORD_BYTES) and, if CPUs are then held, for those until they are released: a call of each
+ * powered CPU that is not held, and the report. Then lfa_log writes what was kept, and whoever waits is let go before the log
+ * ends. host/c/monitor.c does this, and says what becomes of a CPU whose call is kept back. With LFA_MOST_LOG_RECORDS records a
+ * log is full: store it away, and begin the next one with a board that starts fresh. Both questions read a log from a fresh board
+ * on, so of a log that begins later they know too little; lfa_read_record reads any.
  *
  * Bytes between the fields of a struct (padding) are never looked at, and may change.
  */
@@ -36,7 +42,7 @@
 #include <stddef.h>
 #include <stdint.h>
 
-#if !defined(__x86_64__) || defined(_WIN32)
+#if !defined(__x86_64__) || defined(_WIN32) || defined(__CYGWIN__)
 #error "lfa.h: the library is for x86-64 and the System V calling convention"
 #endif
 #if SIZE_MAX != UINT64_MAX
@@ -47,12 +53,23 @@
 extern "C" {
 #endif
 
-/* The number of this boundary: it rises with every layout. lfa_abi gives the library's. */
+/*
+ * The number of this boundary: it rises with every change of a layout or of what a number means, so with a new kind, state,
+ * caller's part, release or code as well. lfa_abi gives the library's.
+ */
 #define LFA_ABI 1
+
+/* The library's calling convention, where the compiler can be told. */
+#if defined(__GNUC__)
+#define LFA_CALL __attribute__((sysv_abi))
+#else
+#define LFA_CALL
+#endif
 
 /*
  * Bytes of stack that a call takes at most, counted from the compiled code (host/c/stack): from its return address down, the red
- * zone included. Arguments and answer lie in the caller's own frame; what memcpy and memset take beyond a red zone is on top.
+ * zone included. Structs that are passed and given lie in the caller's own frame and come on top: 2,032 bytes for lfa_fresh, 816
+ * for lfa_describe, 184 at most for each other. What memcpy and memset take beyond a red zone is on top too.
  */
 #define LFA_STACK_ABI 1024
 #define LFA_STACK_DESCRIBE 5120
@@ -360,7 +377,7 @@ LFA_SIZE(lfa_answer, 80);
 /* ---- Functions ---- */
 
 /* What the library was built for. This function and its answer stay as they are, whatever LFA_ABI is. */
-struct lfa_abi lfa_abi(void);
+LFA_CALL struct lfa_abi lfa_abi(void);
 
 /* 1 where the library that is linked is the one that this header describes, else 0. */
 static inline int lfa_fits(void)
@@ -378,13 +395,13 @@ static inline int lfa_fits(void)
  * first and the last address; then for each component its 16 bytes of UUID, a bit each for capable, may_reset and optional, 5
  * zeros, and 32 bits for the SVN.
  */
-struct lfa_written lfa_describe(uint8_t *buf, size_t buf_length, struct lfa_board board);
+LFA_CALL struct lfa_written lfa_describe(uint8_t *buf, size_t buf_length, struct lfa_board board);
 
 /*
  * The record of a board that was just switched on: CPU 0 on, the others off, nothing pending, idle. board is the description that
  * lfa_describe writes.
  */
-struct lfa_fresh lfa_fresh(const uint8_t *board, size_t board_length);
+LFA_CALL struct lfa_fresh lfa_fresh(const uint8_t *board, size_t board_length);
 
 /*
  * One event. An accepted one changes the record in place; of CPUs that resume by entry, the places in the two tables get entry
@@ -394,8 +411,8 @@ struct lfa_fresh lfa_fresh(const uint8_t *board, size_t board_length);
  * included; then 1 for a short table, whether or not a CPU would resume; then 32 for a kind that is none of the four, else 2
  * to 8.
  */
-struct lfa_answer lfa_step(struct lfa_record *rec, struct lfa_event e, uint64_t *entries, size_t entries_length,
-                           uint64_t *contexts, size_t contexts_length);
+LFA_CALL struct lfa_answer lfa_step(struct lfa_record *rec, struct lfa_event e, uint64_t *entries, size_t entries_length,
+                                    uint64_t *contexts, size_t contexts_length);
 
 /*
  * Writes the 51 bytes of an accepted event's log record at the start of buf; bytes not written stay. a is the answer that
@@ -403,23 +420,23 @@ struct lfa_answer lfa_step(struct lfa_record *rec, struct lfa_event e, uint64_t 
  * nothing is written. Then 31 where a number has no room in its field, or where the release of an activate report of code 12
  * gives an X0 that is not 0; and 34 where buf is shorter than 51 bytes.
  */
-struct lfa_written lfa_log(uint8_t *buf, size_t buf_length, struct lfa_event e, struct lfa_answer a);
+LFA_CALL struct lfa_written lfa_log(uint8_t *buf, size_t buf_length, struct lfa_event e, struct lfa_answer a);
 
 /* Reads the log record at the start of log, whatever follows it: 30 where there are under 51 bytes, then 32, then 31. */
-struct lfa_read lfa_read_record(const uint8_t *log, size_t log_length);
+LFA_CALL struct lfa_read lfa_read_record(const uint8_t *log, size_t log_length);
 
 /*
  * Which component is prepared at a place of a log: after that many of its records. 33 where the bytes are no log or the place
  * is past its end; else the refusal of the first bad record, wherever it is.
  */
-struct lfa_prepared lfa_prepared(const uint8_t *log, size_t log_length, size_t place);
+LFA_CALL struct lfa_prepared lfa_prepared(const uint8_t *log, size_t log_length, size_t place);
 
 /*
  * The component whose rendezvous activation starts if the call is made at a place of a log, from the board description, the
  * log and the call alone. A refusal of the board comes first, with place 0; those of the log are as in lfa_prepared.
  */
-struct lfa_started lfa_starts(const uint8_t *board, size_t board_length, const uint8_t *log, size_t log_length, size_t place,
-                              struct lfa_call call);
+LFA_CALL struct lfa_started lfa_starts(const uint8_t *board, size_t board_length, const uint8_t *log, size_t log_length,
+                                       size_t place, struct lfa_call call);
 
 #ifdef __cplusplus
 }

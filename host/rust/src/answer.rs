@@ -48,8 +48,11 @@ pub struct Answer {
 }
 
 impl Answer {
-    /// An answer from its numbers, or its refusal. As the library has it, other numbers than a caller's part or a release has
-    /// stand for none.
+    /// An answer from its numbers, or its refusal.
+    ///
+    /// # Panics
+    ///
+    /// If no caller's part or no release has this number: the library is another, and nobody knows what a CPU has to do.
     pub fn from_flat(a: flat::Answer) -> Result<Answer, Refusal> {
         Refusal::check(a.refusal)?;
         Ok(Answer {
@@ -86,19 +89,21 @@ impl From<Answer> for flat::Answer {
 
 fn caller(a: flat::Answer) -> Caller {
     match a.caller {
+        0 => Caller::Nothing,
         1 => Caller::Returned(a.returned),
         2 => Caller::Held,
         3 => Caller::PrimeStarted,
         4 => Caller::ActivationStarted,
         5 => Caller::Gone,
-        _ => Caller::Nothing,
+        other => panic!("no caller's part has the number {other}"),
     }
 }
 
 fn release(a: flat::Answer) -> Release {
     match a.release {
+        0 => Release::Nobody,
         1 => Release::Returned(a.freed),
         2 => Release::Resumed(a.freed.cpus),
-        _ => Release::Nobody,
+        other => panic!("no release has the number {other}"),
     }
 }

@@ -1,7 +1,7 @@
 //! What crosses to the library: numbers, arrays of numbers, and structs of these, as `lfa.h` has them.
 //!
-//! Every function here is safe: references are all that the library asks for, and whatever the numbers are, it gives a stated
-//! answer. Before the first call each of them looks whether the library is the one that these structs are for ([`Abi`]).
+//! Every function here is safe: references are all that the library asks of pointers, and whatever the numbers are, it gives a
+//! stated answer. Before the first call each of them looks whether the library is the one that these structs are for ([`Abi`]).
 
 use core::mem::size_of;
 use core::sync::atomic::{AtomicBool, Ordering};
@@ -15,7 +15,7 @@ pub const MOST_CPUS: usize = 64;
 #[repr(C)]
 #[derive(Clone, Copy, Debug, Default, PartialEq, Eq)]
 pub struct Abi {
-    /// The ABI number: every other layout has another.
+    /// The ABI number: every other layout or meaning of a number has another.
     pub number: u64,
     /// Bytes of a [`Record`].
     pub record: u64,
@@ -301,7 +301,8 @@ pub struct Started {
 mod linked {
     use super::{Abi, Answer, Board, Call, Event, Fresh, Prepared, Read, Record, Started, Written};
 
-    extern "C" {
+    // The library's convention, also where C has another.
+    extern "sysv64" {
         pub fn lfa_abi() -> Abi;
         pub fn lfa_describe(buf: *mut u8, buf_length: usize, board: Board) -> Written;
         pub fn lfa_fresh(board: *const u8, board_length: usize) -> Fresh;

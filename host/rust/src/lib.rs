@@ -6,8 +6,12 @@
 //! tells what is prepared ([`prepared_at`]) and whether a call starts a rendezvous activation ([`starts_at`]). A [`Refusal`]
 //! changes nothing.
 //!
-//! No input makes a function here panic; a linked library that this wrapper is not for does, before anything crosses to it.
-//! What the library asks of a host, the types see to.
+//! No board, event or log makes a function here panic. A linked library that this wrapper is not for does: one that says so,
+//! before anything crosses to it, and one whose answer has a number that this wrapper does not know.
+//!
+//! Of what the library asks of a host (`lfa.h`), the types see to pointers, lengths and one call at a time for a record. The
+//! rest is for the host: a stack as deep as `LFA_STACK_` says and on which no interrupt is taken, since the red zone is in use,
+//! and SSE2 switched on. A program under Linux has all this from the system.
 //!
 //! ```
 //! use lfa::{describe, function, write_log, Board, Call, Caller, Event, Image, Record, State};

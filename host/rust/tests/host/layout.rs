@@ -26,7 +26,7 @@ fn said_of(abi: Abi) -> Option<String> {
 }
 
 #[test]
-fn another_library_is_never_called() {
+fn other_numbers_are_another_library() {
     let changes: [fn(&mut Abi) -> &mut u64; 4] = [
         |abi| &mut abi.number,
         |abi| &mut abi.record,

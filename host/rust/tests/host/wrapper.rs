@@ -78,17 +78,21 @@ fn answers_there_and_back() {
 }
 
 #[test]
-fn other_numbers_are_no_caller_and_nobody() {
-    let numbers = flat::Answer {
+#[should_panic(expected = "no caller's part has the number 6")]
+fn another_number_is_no_caller_s_part() {
+    let _ = Answer::from_flat(flat::Answer {
         caller: 6,
-        release: u64::MAX,
         ..flat::Answer::default()
-    };
-    let nothing = Answer {
-        caller: Caller::Nothing,
-        release: Release::Nobody,
-    };
-    assert_eq!(Answer::from_flat(numbers), Ok(nothing));
+    });
+}
+
+#[test]
+#[should_panic(expected = "no release has the number 3")]
+fn another_number_is_no_release() {
+    let _ = Answer::from_flat(flat::Answer {
+        release: 3,
+        ..flat::Answer::default()
+    });
 }
 
 #[test]
