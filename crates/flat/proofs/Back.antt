@@ -1,7 +1,7 @@
 -- What a host writes through the library it reads back through it: a refusal's number is never 0, so the writer took it, and then the
 -- round trips of boards and of log records say it. Assumes nothing.
 use Prim.Native.Nat.{ℕ}
-use mathlib.Core.Path.{_≡_, refl, _∙_}
+use mathlib.Core.Path.{_≡_, refl, ap, ap₂, _∙_}
 use mathlib.Core.Bool.{Bool, true, false}
 use native.Mathlib.Omega.{arith}
 use mathlib.Core.List.{List}
@@ -62,4 +62,7 @@ module _ (d : List ℕ) (f : FlatBoard) (typed : Described (boardIn f)) where
       go false p v q t u h = let same : _≡_ {A = ℕ} 22 0 = rw p at h in never (omega arith)
       go true p (Broken x) q t u h = absurd (eqb-false (boardNumber x) 0 (board-some x) (rw (p, q) at h))
       go true p Kept q true u h = let same : _≡_ {A = ℕ} 27 0 = rw (p, q, u) at h in never (omega arith)
-      go true p Kept q false u h = rw (p, q, u, part-of q u, reads-back (boardIn f) typed q)
+      go true p Kept q false u h =
+          let bytes : describedOf (length d) f .bytes ≡ lengthOf (boardIn f .components) = rw (p, q, u) in
+          let buffer : descriptionOf d f ≡ boardBuffer d (boardIn f) = rw p in
+          ap freshIn (ap₂ (λ (n : ℕ) (l : List ℕ). take n l) bytes buffer ∙ part-of q u) ∙ rw (reads-back (boardIn f) typed q)
