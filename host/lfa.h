@@ -232,8 +232,10 @@ struct lfa_board {
 /*
  * A board's record: lfa_fresh makes it, the host keeps it, lfa_step changes it in place.
  *
- * It may be copied, stored and brought back. Each event looks first whether it is well formed (document 01), which here also
- * needs every flag to be 0 or 1, a state number up to 8, and subject 0 in idle and dead. If not: refusal 9, nothing changed.
+ * It may be copied and stored, and brought back as long as no event was accepted since: an older copy is taken too, and does not
+ * know of a CPU that was switched on since, so that a swap could begin beside it. Each event looks first whether the record is well
+ * formed (document 01), which here also needs every flag to be 0 or 1, the number of a state, and subject 0 in idle and dead. If
+ * not: refusal 9, nothing changed.
  */
 struct lfa_record {
     struct lfa_board board;

@@ -94,7 +94,7 @@ pub struct Record {
     pub pending: [u8; MOST_COMPONENTS],
     /// The pending image's version, else 0.
     pub version: [u32; MOST_COMPONENTS],
-    /// A number from 0 (idle) to 8 (dead), in the order of document 01's table of rules.
+    /// Its place in document 01's table of rules, from 0 (idle) on; a new state takes the next.
     pub state: u64,
     /// The state's component; 0 in idle and dead.
     pub subject: u64,

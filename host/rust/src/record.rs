@@ -29,7 +29,7 @@ pub enum State {
 }
 
 impl State {
-    /// The state of a number and a component. None for a number over 8, and for a component other than 0 in idle or dead.
+    /// The state of a number and a component. None for a number that no state has, and for a component other than 0 in idle or dead.
     pub fn from_numbers(state: u64, subject: u64) -> Option<State> {
         match (state, subject) {
             (0, 0) => Some(State::Idle),
