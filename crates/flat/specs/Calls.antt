@@ -39,7 +39,8 @@ use Rattle.flat.specs.declared.FlatWritten.{FlatWritten}
 use Rattle.trace.specs.declared.Read.{Read}
 use Rattle.trace.specs.declared.Read.the-variants.{Known, Unknown}
 
--- ---- the library itself: its ABI number, which rises with every layout, and the bytes of what a host lends and gets
+-- ---- the library itself: its ABI number, which rises with every change of a layout or of what a number means, and the bytes of
+-- what a host lends and gets
 -- (crates/flat/proofs/Sizes.antt shows that these are the bytes of the types)
 unfoldable pub abiOf : FlatAbi
 abiOf = record { number = 1; rec = 2024; event = 88; answer = 80 }

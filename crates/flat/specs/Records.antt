@@ -5,7 +5,6 @@ use mathlib.Core.Bool.{Bool, false, _&&_}
 use mathlib.Core.List.{List, []}
 use lib.Dec.{eqb, leb, ltb}
 use lib.ListN.{getD, replicate}
-use Rattle.basics.specs.Choice.{pick}
 use Rattle.basics.specs.Every.{allBelow}
 use Rattle.basics.specs.Places.{firsts}
 use Rattle.cpuset.specs.Set.{noneOf}

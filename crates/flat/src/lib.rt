@@ -18,7 +18,7 @@ use rules::Registers;
 use rules::Report;
 use trace::Read;
 
-// The number of this layout, which rises with every other one, and the bytes of its structs.
+// The ABI number, which rises with every change of a layout or of what a number means, and the bytes of the structs.
 const ABI: u64 = 1;
 
 const RECORD_SIZE: u64 = 2024;
