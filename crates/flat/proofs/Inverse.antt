@@ -1,11 +1,11 @@
 -- Records as numbers and back, each way undoing the other on what is well formed: flags by cases, states along their order, tables at
 -- each place. Assumes nothing.
-use Prim.Native.Nat.{ℕ, zero, suc, _<_, _≤_}
-use mathlib.Core.Path.{_≡_, refl, ap, _∙_}
+use Prim.Native.Nat.{ℕ, _<_, _≤_}
+use mathlib.Core.Path.{_≡_, refl, sym, ap, _∙_}
 use mathlib.Core.Bool.{Bool, true, false, _&&_}
-use mathlib.Core.List.{List, [], _∷_}
+use mathlib.Core.List.{List}
 use lib.Dec.{eqb, ltb}
-use lib.ListN.{length, getD}
+use lib.ListN.{length, getD, List·getD-eq-default}
 use borrow.Author.Tests.{eq-eqb, eqb-true, leb-true, ltb-true, le-leb, lt-ltb}
 use native.Mathlib.Omega.{arith}
 use Rattle.basics.specs.Choice.{both, and-left, and-right}
@@ -47,13 +47,8 @@ pub state-back : (s : State) → stateIn (placeOf s) (subjectNumber s) ≡ s
 state-back = every-state (λ s. stateIn (placeOf s) (subjectNumber s)) (λ s. s) (λ c. refl)
 
 -- past the last place there is none
-past-end : {A : Type 0} (l : List A) (n : ℕ) (d : A) → length l ≤ n → d ≡ getD l n d
-past-end [] n d h = refl
-past-end (x ∷ l) zero d h = absurd (omega arith)
-past-end (x ∷ l) (suc n) d h = past-end l n d (omega arith)
-
 pub past-order : (n c : ℕ) → stateCount ≤ n → Dead ≡ stateIn n c
-past-order n c h = past-end (inOrder c) n Dead h
+past-order n c h = sym (List·getD-eq-default (inOrder c) Dead {n = n} h)
 
 state-is : (s : State) → isState (placeOf s) (subjectNumber s) ≡ true
 state-is s = rw (lt-ltb (placeOf s) stateCount (place-below s), state-back s, eq-eqb (subjectNumber s) _ refl)
