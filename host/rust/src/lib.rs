@@ -7,7 +7,7 @@
 //! changes nothing.
 //!
 //! No board, event or log makes a function here panic. A linked library that this wrapper is not for does: one that says so,
-//! before anything crosses to it, and one whose answer has a number that this wrapper does not know.
+//! before anything crosses to it, and one whose answer or state has a number that this wrapper does not know.
 //!
 //! Of what the library asks of a host (`lfa.h`), the types see to pointers, lengths and one call at a time for a record. The
 //! rest is for the host: a stack as deep as `LFA_STACK_` says and on which no interrupt is taken, since the red zone is in use,

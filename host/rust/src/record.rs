@@ -100,9 +100,13 @@ impl Record {
     }
 
     /// The state.
+    ///
+    /// # Panics
+    ///
+    /// If no state has the record's number: the library, which takes it for well formed, is another.
     pub fn state(&self) -> State {
-        // A well-formed record has one; the library reads any other number as dead.
-        State::from_numbers(self.0.state, self.0.subject).unwrap_or(State::Dead)
+        State::from_numbers(self.0.state, self.0.subject)
+            .unwrap_or_else(|| panic!("no state has the number {}", self.0.state))
     }
 
     /// The powered CPUs.
