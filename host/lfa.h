@@ -8,14 +8,18 @@
  *
  * What the host owes:
  * - It asks lfa_fits before anything else. A library that was built for another record would write past this one.
- * - It is an x86-64 host where size_t has 8 bytes, its structs are not packed, and it calls by the System V convention of x86-64.
- *   gcc and clang do so by LFA_CALL, whatever their own convention is; with another compiler the host sees to it.
- * - Its stack is aligned to 16 bytes at a call, as that convention has it, and has room for what LFA_STACK_ says.
- * - SSE2 is switched on, and xmm0 to xmm15 are the library's during a call: the host saves them for whoever it serves. No other
- *   floating-point or vector register is touched.
- * - No interrupt is taken on the stack of a call: each is off, or has a stack of its own. The 128 bytes under the stack pointer
- *   (the red zone) are in use, and the processor itself writes there, before a handler could step over them. A program under Linux
- *   has all this from the system, whose signals step over the red zone.
+ * - It is an x86-64 host with the System V convention, or an AArch64 one, little-endian, with that of AAPCS64; size_t has 8 bytes,
+ *   and structs are not packed. On x86-64 gcc and clang call so by LFA_CALL, whatever their own convention is; with another
+ *   compiler the host sees to it. Each machine has its library: target/staticlib/libmonitor.a, target/arm/libmonitor.a (host/arm).
+ * - Its stack is aligned to 16 bytes at a call, as both conventions have it, and has room for what LFA_STACK_ says.
+ * - x86-64: SSE2 is switched on, and xmm0 to xmm15 are the library's during a call: the host saves them for whoever it serves. No
+ *   other floating-point or vector register is touched.
+ * - x86-64: no interrupt is taken on the stack of a call: each is off, or has a stack of its own. The 128 bytes under the stack
+ *   pointer (the red zone) are in use, and the processor itself writes there, before a handler could step over them. A program
+ *   under Linux has all this from the system, whose signals step over the red zone.
+ * - AArch64: nothing of that. General registers alone are used, so floating point may be switched off, and of these not X18; X29
+ *   is always the chain of frames. Every access is aligned, so alignment may be checked. There is no red zone: an interrupt may
+ *   be taken on the stack of a call where that has room for both.
  * - A pointer is aligned, and valid for the length that comes with it; where that is 0 it may be null. A record's pointer is
  *   never null.
  * - The record is writable, even where the event is refused: it is stored again as it was.
@@ -42,8 +46,8 @@
 #include <stddef.h>
 #include <stdint.h>
 
-#if !defined(__x86_64__) || defined(_WIN32) || defined(__CYGWIN__)
-#error "lfa.h: the library is for x86-64 and the System V calling convention"
+#if !defined(__x86_64__) && !defined(__AARCH64EL__) || defined(_WIN32) || defined(__CYGWIN__)
+#error "lfa.h: the library is for x86-64 with the System V calling convention, and for little-endian AArch64"
 #endif
 #if SIZE_MAX != UINT64_MAX
 #error "lfa.h: size_t has not 8 bytes"
@@ -59,17 +63,18 @@ extern "C" {
  */
 #define LFA_ABI 1
 
-/* The library's calling convention, where the compiler can be told. */
-#if defined(__GNUC__)
+/* The library's calling convention, where the compiler has others and can be told. */
+#if defined(__GNUC__) && defined(__x86_64__)
 #define LFA_CALL __attribute__((sysv_abi))
 #else
 #define LFA_CALL
 #endif
 
 /*
- * Bytes of stack that a call takes at most, counted from the compiled code (host/c/stack): from its return address down, the red
- * zone included. Structs that are passed and given lie in the caller's own frame and come on top: 2,032 bytes for lfa_fresh, 816
- * for lfa_describe, 184 at most for each other. What memcpy and memset take beyond a red zone is on top too.
+ * Bytes of stack that a call takes at most, on either machine, counted from the compiled code of both (host/stack): on x86-64 from
+ * its return address down, the red zone included; on AArch64 from the stack pointer at its entry. Structs that are passed and given
+ * lie in the caller's own frame and come on top: 2,032 bytes for lfa_fresh, 816 for lfa_describe, 184 at most for each other. What
+ * memcpy and memset take is on top too, on x86-64 beyond a red zone.
  */
 #define LFA_STACK_ABI 1024
 #define LFA_STACK_DESCRIBE 5120

@@ -1,0 +1,254 @@
+/*
+ * A million seeded events on boards of all sizes, with damaged records, boards and logs among them, as one running number of every
+ * answer, record, table and byte that the library gives. It is the same on every machine; the counts say what went into it.
+ */
+#include <inttypes.h>
+#include <stdio.h>
+#include <string.h>
+
+#include "events.h"
+
+enum { EVENTS = 1000000 };
+
+/* ---- The running number ---- */
+
+static uint64_t number;
+
+/* Each step can be undone, so two numbers that differ once stay apart until chance joins them. */
+static void take(uint64_t word)
+{
+    number = (number ^ word) * UINT64_C(0x9E3779B97F4A7C15);
+    number ^= number >> 32;
+}
+
+static void take_bytes(const void *from, size_t length)
+{
+    for (size_t at = 0; at < length; at += sizeof(uint64_t)) {
+        uint64_t word = 0;
+        size_t left = length - at;
+        memcpy(&word, (const uint8_t *)from + at, left < sizeof word ? left : sizeof word);
+        take(word);
+    }
+}
+
+#define TAKE(given) take_bytes(&(given), sizeof(given))
+
+/* All but the padding, which is the last byte of each component. */
+static void take_record(const struct lfa_record *r)
+{
+    take_bytes(&r->board, offsetof(struct lfa_board, component));
+    for (size_t i = 0; i < LFA_MOST_COMPONENTS; i++)
+        take_bytes(&r->board.component[i], offsetof(struct lfa_component, optional) + 1);
+    take_bytes(r->pending, sizeof *r - offsetof(struct lfa_record, pending));
+}
+
+/* ---- What was met ---- */
+
+enum { REFUSALS = LFA_REFUSAL_NO_ROOM + 1 };
+
+static uint64_t states[LFA_STATE_DEAD + 1], callers[LFA_CALLER_GONE + 1], releases[LFA_RELEASE_BY_ENTRY + 1];
+static uint64_t refused_events[REFUSALS], refused_boards[REFUSALS], refused_logs[REFUSALS];
+static uint64_t prepared_places, started_places;
+
+#define COUNT(list, at) count(list, sizeof(list) / sizeof *(list), at)
+#define PRINT(list) print(#list, list, sizeof(list) / sizeof *(list))
+
+static void count(uint64_t *list, size_t length, uint64_t at)
+{
+    if (at < length) list[at]++;
+}
+
+/* The numbers that were met, each with how often. */
+static void print(const char *name, const uint64_t *list, size_t length)
+{
+    printf("%s:", name);
+    for (size_t i = 0; i < length; i++)
+        if (list[i]) printf(" %zu: %" PRIu64, i, list[i]);
+    printf("\n");
+}
+
+/* ---- The board and its log ---- */
+
+static struct {
+    uint8_t board[LFA_BOARD_BYTES(LFA_MOST_COMPONENTS) + 1];
+    size_t board_length;
+    struct lfa_record rec;
+    uint64_t entries[LFA_MOST_CPUS];
+    uint64_t contexts[LFA_MOST_CPUS];
+    uint8_t log[LFA_MOST_LOG_RECORDS * LFA_LOG_RECORD_BYTES];
+    size_t logged;
+} m;
+
+/* Changes one bit of some bytes. */
+static void damage(void *bytes, size_t length)
+{
+    size_t at = below(length);
+    ((uint8_t *)bytes)[at] ^= (uint8_t)(1 << below(8));
+}
+
+static size_t describe(uint8_t *board, size_t room, const struct lfa_board *parts)
+{
+    struct lfa_written w = lfa_describe(board, room, *parts);
+    TAKE(w);
+    take_bytes(board, sizeof m.board);
+    COUNT(refused_boards, w.refusal);
+    return w.bytes;
+}
+
+static struct lfa_fresh fresh(const uint8_t *board, size_t length)
+{
+    struct lfa_fresh f = lfa_fresh(board, length);
+    take(f.refusal);
+    take_record(&f.rec);
+    COUNT(refused_boards, f.refusal);
+    return f;
+}
+
+/* The same board with a bit, a count or a length that is another: from its parts, and from its bytes. */
+static void start_damaged(struct lfa_board parts)
+{
+    static const uint64_t COUNTS[] = {0, LFA_MOST_COMPONENTS + 1, LFA_MOST_CPUS + 1, UINT64_MAX};
+    static uint8_t bytes[sizeof m.board];
+    memcpy(bytes, m.board, sizeof bytes);
+    size_t length = one_in(2) ? m.board_length : below(sizeof bytes + 1);
+    damage(bytes, m.board_length);
+    fresh(bytes, length);
+    damage(&parts, offsetof(struct lfa_board, component) + parts.components * sizeof(struct lfa_component));
+    if (one_in(4)) parts.cpus = ONE_OF(COUNTS);
+    if (one_in(4)) parts.components = ONE_OF(COUNTS);
+    if (one_in(4)) parts.component[1] = parts.component[0];
+    describe(bytes, below(sizeof bytes + 1), &parts);
+}
+
+static void start(void)
+{
+    struct lfa_board parts = any_board();
+    m.board_length = describe(m.board, sizeof m.board, &parts);
+    m.rec = fresh(m.board, m.board_length).rec;
+    m.logged = 0;
+    start_damaged(parts);
+}
+
+/* ---- Steps and questions ---- */
+
+static struct lfa_answer step(struct lfa_record *r, struct lfa_event e)
+{
+    size_t entries = LFA_MOST_CPUS - (one_in(64) ? below(LFA_MOST_CPUS) : 0);
+    size_t contexts = LFA_MOST_CPUS - (one_in(64) ? below(LFA_MOST_CPUS) : 0);
+    struct lfa_answer a = lfa_step(r, e, m.entries, entries, m.contexts, contexts);
+    TAKE(a);
+    take_record(r);
+    TAKE(m.entries);
+    TAKE(m.contexts);
+    COUNT(refused_events, a.refusal);
+    return a;
+}
+
+/* The same event on a record of which a bit is another. */
+static void step_damaged(struct lfa_event e)
+{
+    struct lfa_record other = m.rec;
+    if (one_in(2)) damage(&other.pending, sizeof other - offsetof(struct lfa_record, pending));
+    else damage(&other, sizeof other);
+    step(&other, e);
+}
+
+/* Logs what was accepted, and reads it back. */
+static void log_event(struct lfa_event e, struct lfa_answer a)
+{
+    uint8_t *at = m.log + m.logged;
+    struct lfa_written w = lfa_log(at, sizeof m.log - m.logged, e, a);
+    TAKE(w);
+    COUNT(refused_logs, w.refusal);
+    take_bytes(at, w.bytes);
+    struct lfa_read r = lfa_read_record(at, w.bytes);
+    TAKE(r);
+    m.logged += w.bytes;
+}
+
+/* The same with an event and an answer of which a bit is another, and with any room. */
+static void log_damaged(struct lfa_event e, struct lfa_answer a)
+{
+    uint8_t room[LFA_LOG_RECORD_BYTES] = {0};
+    if (one_in(2)) damage(&e, sizeof e);
+    if (one_in(2)) damage(&a, sizeof a);
+    struct lfa_written w = lfa_log(room, one_in(2) ? sizeof room : below(sizeof room), e, a);
+    TAKE(w);
+    TAKE(room);
+    COUNT(refused_logs, w.refusal);
+    struct lfa_read r = lfa_read_record(room, below(sizeof room));
+    TAKE(r);
+    COUNT(refused_logs, r.refusal);
+}
+
+/* Both questions to the log, at its end, or at any place of it and one behind. */
+static void ask(void)
+{
+    size_t records = m.logged / LFA_LOG_RECORD_BYTES;
+    size_t place = one_in(2) ? records : below(records + 2);
+    size_t length = m.logged - (one_in(16) ? below(m.logged + 1) : 0);
+    struct lfa_prepared p = lfa_prepared(m.log, length, place);
+    struct lfa_event next = onward(&m.rec);
+    struct lfa_started s = lfa_starts(m.board, m.board_length, m.log, length, place, next.call);
+    TAKE(p);
+    TAKE(s);
+    COUNT(refused_logs, p.refusal);
+    prepared_places += p.prepared.found;
+    started_places += s.started.found;
+}
+
+/* The same with a log of which one bit is another, and the record of that bit. */
+static void ask_damaged(void)
+{
+    size_t at = below(m.logged);
+    uint8_t kept = m.log[at];
+    damage(m.log + at, 1);
+    size_t record = at - at % LFA_LOG_RECORD_BYTES;
+    struct lfa_read r = lfa_read_record(m.log + record, m.logged - record);
+    TAKE(r);
+    COUNT(refused_logs, r.refusal);
+    ask();
+    m.log[at] = kept;
+}
+
+static void event(void)
+{
+    struct lfa_event e = one_in(4) ? any_event(&m.rec) : onward(&m.rec);
+    if (one_in(8)) step_damaged(e);
+    COUNT(states, m.rec.state);
+    struct lfa_answer a = step(&m.rec, e);
+    if (a.refusal != LFA_REFUSAL_NONE) return;
+    COUNT(callers, a.caller);
+    COUNT(releases, a.release);
+    log_event(e, a);
+    if (one_in(8)) log_damaged(e, a);
+}
+
+/* A board, until its log is full or it is dead for a while. */
+static uint64_t walk(uint64_t events)
+{
+    uint64_t done = 0;
+    start();
+    while (done < events && m.logged < sizeof m.log && !(m.rec.state == LFA_STATE_DEAD && one_in(32))) {
+        event();
+        done++;
+        if (m.logged != 0 && one_in(256)) one_in(2) ? ask() : ask_damaged();
+    }
+    return done;
+}
+
+int main(void)
+{
+    uint64_t boards = 0;
+    for (uint64_t done = 0; done < EVENTS; boards++) done += walk(EVENTS - done);
+    printf("%d events on %" PRIu64 " boards\n", EVENTS, boards);
+    PRINT(states);
+    PRINT(callers);
+    PRINT(releases);
+    PRINT(refused_events);
+    PRINT(refused_boards);
+    PRINT(refused_logs);
+    printf("places where a component is prepared: %" PRIu64 ", where one starts: %" PRIu64 "\n", prepared_places, started_places);
+    printf("the running number is %" PRIx64 "\n", number);
+    return 0;
+}

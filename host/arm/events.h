@@ -1,0 +1,26 @@
+/* Dice with a seed, and the boards and events that they give: mostly with a meaning, sometimes without. */
+#ifndef EVENTS_H
+#define EVENTS_H
+
+#include "lfa.h"
+
+/* An expression has one throw at most: C leaves open which of two would be the first. */
+#define ONE_OF(list) (list)[below(sizeof(list) / sizeof *(list))]
+
+/* Any 64-bit number. */
+uint64_t any(void);
+
+uint64_t below(uint64_t end);
+
+int one_in(uint64_t many);
+
+/* A board that lfa_describe takes. */
+struct lfa_board any_board(void);
+
+/* Any event, those of no kind included. */
+struct lfa_event any_event(const struct lfa_record *r);
+
+/* An event that moves the state on, or tries to. */
+struct lfa_event onward(const struct lfa_record *r);
+
+#endif
