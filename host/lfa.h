@@ -4,22 +4,24 @@
  *
  * All that crosses is numbers, arrays of numbers, and structs of these. Whatever they hold, the answer is a stated one: nothing
  * here aborts, allocates or keeps anything between two calls. The library calls memcpy and memset and nothing else: a host without
- * a C library brings these two.
+ * a C library brings these two, for any address and length, and for whatever registers and alignment it allows itself.
  *
  * What the host owes:
  * - It asks lfa_fits before anything else. A library that was built for another record would write past this one.
  * - It is an x86-64 host with the System V convention, or an AArch64 one, little-endian, with that of AAPCS64; size_t has 8 bytes,
- *   and structs are not packed. On x86-64 gcc and clang call so by LFA_CALL, whatever their own convention is; with another
- *   compiler the host sees to it. Each machine has its library: target/staticlib/libmonitor.a, target/arm/libmonitor.a (host/arm).
+ *   and structs are not packed. Each has its own library: target/staticlib/libmonitor.a by `rt staticlib monitor`, and
+ *   target/arm/libmonitor.a by host/arm/build. On x86-64 gcc and clang call right by LFA_CALL, whatever their own convention is;
+ *   with another compiler the host sees to it.
  * - Its stack is aligned to 16 bytes at a call, as both conventions have it, and has room for what LFA_STACK_ says.
- * - x86-64: SSE2 is switched on, and xmm0 to xmm15 are the library's during a call: the host saves them for whoever it serves. No
+ * - On x86-64 SSE2 is switched on, and xmm0 to xmm15 are the library's during a call: the host saves them for whoever it serves. No
  *   other floating-point or vector register is touched.
- * - x86-64: no interrupt is taken on the stack of a call: each is off, or has a stack of its own. The 128 bytes under the stack
+ * - On x86-64 no interrupt is taken on the stack of a call: each is off, or has a stack of its own. The 128 bytes under the stack
  *   pointer (the red zone) are in use, and the processor itself writes there, before a handler could step over them. A program
  *   under Linux has all this from the system, whose signals step over the red zone.
- * - AArch64: nothing of that. General registers alone are used, so floating point may be switched off, and of these not X18; X29
- *   is always the chain of frames. Every access is aligned, so alignment may be checked. There is no red zone: an interrupt may
- *   be taken on the stack of a call where that has room for both.
+ * - On AArch64 neither of these two. The library has instructions of Armv8.0-A alone, for general registers: floating point may be
+ *   off. Every access is aligned: alignment may be checked. X18 is left alone, X29 is the chain of frames at all times, and each
+ *   function starts with a landing pad (BTI), so its page may be guarded. There is no red zone: an interrupt may be taken on the
+ *   stack of a call where there is room for both.
  * - A pointer is aligned, and valid for the length that comes with it; where that is 0 it may be null. A record's pointer is
  *   never null.
  * - The record is writable, even where the event is refused: it is stored again as it was.

@@ -47,7 +47,7 @@ static void take_record(const struct lfa_record *r)
 enum { REFUSALS = LFA_REFUSAL_NO_ROOM + 1 };
 
 static uint64_t states[LFA_STATE_DEAD + 1], callers[LFA_CALLER_GONE + 1], releases[LFA_RELEASE_BY_ENTRY + 1];
-static uint64_t refused_events[REFUSALS], refused_boards[REFUSALS], refused_logs[REFUSALS];
+static uint64_t refused_events[REFUSALS], refused_boards[REFUSALS], refused_logs[REFUSALS], refused_starts[REFUSALS];
 static uint64_t prepared_places, started_places;
 
 #define COUNT(list, at) count(list, sizeof(list) / sizeof *(list), at)
@@ -69,6 +69,7 @@ static void print(const char *name, const uint64_t *list, size_t length)
 
 /* ---- The board and its log ---- */
 
+/* What a walk has: a board's description, its record, the two tables and the log. */
 static struct {
     uint8_t board[LFA_BOARD_BYTES(LFA_MOST_COMPONENTS) + 1];
     size_t board_length;
@@ -77,7 +78,7 @@ static struct {
     uint64_t contexts[LFA_MOST_CPUS];
     uint8_t log[LFA_MOST_LOG_RECORDS * LFA_LOG_RECORD_BYTES];
     size_t logged;
-} m;
+} walked;
 
 /* Changes one bit of some bytes. */
 static void damage(void *bytes, size_t length)
@@ -86,11 +87,19 @@ static void damage(void *bytes, size_t length)
     ((uint8_t *)bytes)[at] ^= (uint8_t)(1 << below(8));
 }
 
+/* A description with a bit that is another, or with the UUID of component 0 for component 1. */
+static void damage_board(uint8_t *board)
+{
+    if (walked.rec.board.components > 1 && one_in(4))
+        memcpy(board + LFA_BOARD_BYTES(1), board + LFA_BOARD_BYTES(0), LFA_UUID_BYTES);
+    else damage(board, walked.board_length);
+}
+
 static size_t describe(uint8_t *board, size_t room, const struct lfa_board *parts)
 {
     struct lfa_written w = lfa_describe(board, room, *parts);
     TAKE(w);
-    take_bytes(board, sizeof m.board);
+    take_bytes(board, sizeof walked.board);
     COUNT(refused_boards, w.refusal);
     return w.bytes;
 }
@@ -108,10 +117,10 @@ static struct lfa_fresh fresh(const uint8_t *board, size_t length)
 static void start_damaged(struct lfa_board parts)
 {
     static const uint64_t COUNTS[] = {0, LFA_MOST_COMPONENTS + 1, LFA_MOST_CPUS + 1, UINT64_MAX};
-    static uint8_t bytes[sizeof m.board];
-    memcpy(bytes, m.board, sizeof bytes);
-    size_t length = one_in(2) ? m.board_length : below(sizeof bytes + 1);
-    damage(bytes, m.board_length);
+    static uint8_t bytes[sizeof walked.board];
+    memcpy(bytes, walked.board, sizeof bytes);
+    size_t length = one_in(2) ? walked.board_length : below(sizeof bytes + 1);
+    damage_board(bytes);
     fresh(bytes, length);
     damage(&parts, offsetof(struct lfa_board, component) + parts.components * sizeof(struct lfa_component));
     if (one_in(4)) parts.cpus = ONE_OF(COUNTS);
@@ -123,9 +132,9 @@ static void start_damaged(struct lfa_board parts)
 static void start(void)
 {
     struct lfa_board parts = any_board();
-    m.board_length = describe(m.board, sizeof m.board, &parts);
-    m.rec = fresh(m.board, m.board_length).rec;
-    m.logged = 0;
+    walked.board_length = describe(walked.board, sizeof walked.board, &parts);
+    walked.rec = fresh(walked.board, walked.board_length).rec;
+    walked.logged = 0;
     start_damaged(parts);
 }
 
@@ -135,11 +144,11 @@ static struct lfa_answer step(struct lfa_record *r, struct lfa_event e)
 {
     size_t entries = LFA_MOST_CPUS - (one_in(64) ? below(LFA_MOST_CPUS) : 0);
     size_t contexts = LFA_MOST_CPUS - (one_in(64) ? below(LFA_MOST_CPUS) : 0);
-    struct lfa_answer a = lfa_step(r, e, m.entries, entries, m.contexts, contexts);
+    struct lfa_answer a = lfa_step(r, e, walked.entries, entries, walked.contexts, contexts);
     TAKE(a);
     take_record(r);
-    TAKE(m.entries);
-    TAKE(m.contexts);
+    TAKE(walked.entries);
+    TAKE(walked.contexts);
     COUNT(refused_events, a.refusal);
     return a;
 }
@@ -147,7 +156,7 @@ static struct lfa_answer step(struct lfa_record *r, struct lfa_event e)
 /* The same event on a record of which a bit is another. */
 static void step_damaged(struct lfa_event e)
 {
-    struct lfa_record other = m.rec;
+    struct lfa_record other = walked.rec;
     if (one_in(2)) damage(&other.pending, sizeof other - offsetof(struct lfa_record, pending));
     else damage(&other, sizeof other);
     step(&other, e);
@@ -156,14 +165,14 @@ static void step_damaged(struct lfa_event e)
 /* Logs what was accepted, and reads it back. */
 static void log_event(struct lfa_event e, struct lfa_answer a)
 {
-    uint8_t *at = m.log + m.logged;
-    struct lfa_written w = lfa_log(at, sizeof m.log - m.logged, e, a);
+    uint8_t *at = walked.log + walked.logged;
+    struct lfa_written w = lfa_log(at, sizeof walked.log - walked.logged, e, a);
     TAKE(w);
     COUNT(refused_logs, w.refusal);
     take_bytes(at, w.bytes);
     struct lfa_read r = lfa_read_record(at, w.bytes);
     TAKE(r);
-    m.logged += w.bytes;
+    walked.logged += w.bytes;
 }
 
 /* The same with an event and an answer of which a bit is another, and with any room. */
@@ -181,18 +190,22 @@ static void log_damaged(struct lfa_event e, struct lfa_answer a)
     COUNT(refused_logs, r.refusal);
 }
 
-/* Both questions to the log, at its end, or at any place of it and one behind. */
+/* Both questions to the log, at its end, or at any place of it and one behind; now and then with a damaged board. */
 static void ask(void)
 {
-    size_t records = m.logged / LFA_LOG_RECORD_BYTES;
+    size_t records = walked.logged / LFA_LOG_RECORD_BYTES;
     size_t place = one_in(2) ? records : below(records + 2);
-    size_t length = m.logged - (one_in(16) ? below(m.logged + 1) : 0);
-    struct lfa_prepared p = lfa_prepared(m.log, length, place);
-    struct lfa_event next = onward(&m.rec);
-    struct lfa_started s = lfa_starts(m.board, m.board_length, m.log, length, place, next.call);
+    size_t length = walked.logged - (one_in(16) ? below(walked.logged + 1) : 0);
+    struct lfa_prepared p = lfa_prepared(length ? walked.log : NULL, length, place);
+    struct lfa_event next = onward(&walked.rec);
+    uint8_t board[sizeof walked.board];
+    memcpy(board, walked.board, sizeof board);
+    if (one_in(4)) damage_board(board);
+    struct lfa_started s = lfa_starts(board, walked.board_length, walked.log, length, place, next.call);
     TAKE(p);
     TAKE(s);
     COUNT(refused_logs, p.refusal);
+    COUNT(refused_starts, s.refusal);
     prepared_places += p.prepared.found;
     started_places += s.started.found;
 }
@@ -200,23 +213,23 @@ static void ask(void)
 /* The same with a log of which one bit is another, and the record of that bit. */
 static void ask_damaged(void)
 {
-    size_t at = below(m.logged);
-    uint8_t kept = m.log[at];
-    damage(m.log + at, 1);
+    size_t at = below(walked.logged);
+    uint8_t kept = walked.log[at];
+    damage(walked.log + at, 1);
     size_t record = at - at % LFA_LOG_RECORD_BYTES;
-    struct lfa_read r = lfa_read_record(m.log + record, m.logged - record);
+    struct lfa_read r = lfa_read_record(walked.log + record, walked.logged - record);
     TAKE(r);
     COUNT(refused_logs, r.refusal);
     ask();
-    m.log[at] = kept;
+    walked.log[at] = kept;
 }
 
 static void event(void)
 {
-    struct lfa_event e = one_in(4) ? any_event(&m.rec) : onward(&m.rec);
+    struct lfa_event e = one_in(4) ? any_event(&walked.rec) : onward(&walked.rec);
     if (one_in(8)) step_damaged(e);
-    COUNT(states, m.rec.state);
-    struct lfa_answer a = step(&m.rec, e);
+    COUNT(states, walked.rec.state);
+    struct lfa_answer a = step(&walked.rec, e);
     if (a.refusal != LFA_REFUSAL_NONE) return;
     COUNT(callers, a.caller);
     COUNT(releases, a.release);
@@ -229,10 +242,10 @@ static uint64_t walk(uint64_t events)
 {
     uint64_t done = 0;
     start();
-    while (done < events && m.logged < sizeof m.log && !(m.rec.state == LFA_STATE_DEAD && one_in(32))) {
+    while (done < events && walked.logged < sizeof walked.log && !(walked.rec.state == LFA_STATE_DEAD && one_in(32))) {
         event();
         done++;
-        if (m.logged != 0 && one_in(256)) one_in(2) ? ask() : ask_damaged();
+        if (walked.logged != 0 && one_in(256)) one_in(2) ? ask() : ask_damaged();
     }
     return done;
 }
@@ -248,6 +261,7 @@ int main(void)
     PRINT(refused_events);
     PRINT(refused_boards);
     PRINT(refused_logs);
+    PRINT(refused_starts);
     printf("places where a component is prepared: %" PRIu64 ", where one starts: %" PRIu64 "\n", prepared_places, started_places);
     printf("the running number is %" PRIx64 "\n", number);
     return 0;

@@ -41,6 +41,6 @@ NF < 2 { next }
     if (op ~ /^push/) frame[name] += 8
     else if (op ~ /^(call|j)/) goes(op, args)
     else if (op ~ /^(enter|notrack|bnd)$/) stop(name ": cannot read " $2)
-    else if (args ~ /^[re]?spl?(,|$)/ && op !~ /^(cmp|test)$/ || op == "xchg" && args ~ /,[re]?spl?$/) moves(op, args)
+    else if (args ~ /^[re]?spl?(,|$)/ || op == "xchg" && args ~ /,[re]?spl?$/) moves(op, args)
     if (op !~ /^(call|j)/ && $4 != "" && $4 !~ /^\.(rodata|LCPI)/) stop(name ": takes the address of " $4)
 }

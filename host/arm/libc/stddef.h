@@ -4,6 +4,7 @@
 
 typedef __SIZE_TYPE__ size_t;
 
+#define NULL ((void *)0)
 #define offsetof(type, field) __builtin_offsetof(type, field)
 
 #endif
