@@ -18,10 +18,10 @@
  * - On x86-64 no interrupt is taken on the stack of a call: each is off, or has a stack of its own. The 128 bytes under the stack
  *   pointer (the red zone) are in use, and the processor itself writes there, before a handler could step over them. A program
  *   under Linux has all this from the system, whose signals step over the red zone.
- * - On AArch64 neither of these two. The library has instructions of Armv8.0-A alone, for general registers: floating point may be
- *   off. Every access is aligned: alignment may be checked. X18 is left alone, X29 is the chain of frames at all times, and each
- *   function starts with a landing pad (BTI), so its page may be guarded. There is no red zone: an interrupt may be taken on the
- *   stack of a call where there is room for both.
+ * - On AArch64 it owes neither of these two. The library has instructions of Armv8.0-A alone, for general registers: floating
+ *   point may be off. Every access is aligned: alignment may be checked. X18 is left alone, X29 is the chain of frames at all
+ *   times, and each function starts with a landing pad (BTI), so its page may be guarded. There is no red zone: an interrupt may be
+ *   taken on the stack of a call where there is room for both.
  * - A pointer is aligned, and valid for the length that comes with it; where that is 0 it may be null. A record's pointer is
  *   never null.
  * - The record is writable, even where the event is refused: it is stored again as it was.
