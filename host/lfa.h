@@ -3,8 +3,9 @@
  * two questions that a log answers. The rules are document 01's; C99, and C++ as well. host/c/monitor.c is a monitor to copy.
  *
  * All that crosses is numbers, arrays of numbers, and structs of these. Whatever they hold, the answer is a stated one: nothing
- * here aborts, allocates or keeps anything between two calls. The library calls memcpy and memset and nothing else: a host without
- * a C library brings these two, for any address and length, and for whatever registers and alignment it allows itself.
+ * here aborts, allocates or keeps anything between two calls. The library has no data that changes, its code may lie anywhere, and it
+ * calls memcpy and memset and nothing else. A host without a C library brings these two, for any addresses and lengths; they keep
+ * to what the host allows them, as no vector register and no access that is not aligned.
  *
  * What the host owes:
  * - It asks lfa_fits before anything else. A library that was built for another record would write past this one.
@@ -18,10 +19,10 @@
  * - On x86-64 no interrupt is taken on the stack of a call: each is off, or has a stack of its own. The 128 bytes under the stack
  *   pointer (the red zone) are in use, and the processor itself writes there, before a handler could step over them. A program
  *   under Linux has all this from the system, whose signals step over the red zone.
- * - On AArch64 it owes neither of these two. The library has instructions of Armv8.0-A alone, for general registers: floating
- *   point may be off. Every access is aligned: alignment may be checked. X18 is left alone, X29 is the chain of frames at all
- *   times, and each function starts with a landing pad (BTI), so its page may be guarded. There is no red zone: an interrupt may be
- *   taken on the stack of a call where there is room for both.
+ * - On AArch64 it saves no vector register and may take interrupts on the stack of a call, where there is room for both: there is
+ *   no red zone. The library has instructions of Armv8.0-A alone, for general registers: floating point may be off. Every access is
+ *   aligned: alignment may be checked. X18 is left alone, X29 is the chain of frames at all times, and each function of this header
+ *   starts with a landing pad (BTI), as its object says: pages may be guarded.
  * - A pointer is aligned, and valid for the length that comes with it; where that is 0 it may be null. A record's pointer is
  *   never null.
  * - The record is writable, even where the event is refused: it is stored again as it was.
@@ -48,7 +49,7 @@
 #include <stddef.h>
 #include <stdint.h>
 
-#if !defined(__x86_64__) && !defined(__AARCH64EL__) || defined(_WIN32) || defined(__CYGWIN__)
+#if !defined(__x86_64__) && !defined(__aarch64__) || defined(__AARCH64EB__) || defined(_WIN32) || defined(__CYGWIN__)
 #error "lfa.h: the library is for x86-64 with the System V calling convention, and for little-endian AArch64"
 #endif
 #if SIZE_MAX != UINT64_MAX

@@ -41,7 +41,8 @@ static uint64_t size_up_to(uint64_t most)
     return 1 + below(one_in(2) ? 4 : most);
 }
 
-static struct lfa_component any_part(void)
+/* A component as a board describes it. */
+static struct lfa_component described(void)
 {
     struct lfa_component c = {.svn = 3};
     for (size_t i = 0; i < LFA_UUID_BYTES; i++) c.uuid[i] = (uint8_t)any();
@@ -58,7 +59,7 @@ struct lfa_board any_board(void)
     b.cpus = size_up_to(LFA_MOST_CPUS);
     if (one_in(4)) b.first = any() >> 1;
     b.last = b.first + below(0x1000);
-    for (size_t i = 0; i < b.components; i++) b.component[i] = any_part();
+    for (size_t i = 0; i < b.components; i++) b.component[i] = described();
     b.component[0].capable = 1;
     return b;
 }
@@ -88,7 +89,7 @@ static uint64_t any_entry(const struct lfa_record *r)
     }
 }
 
-/* The state's component, any other, or one that the board has not. */
+/* A component's number: the state's, any other, or one that the board has not. */
 static uint64_t any_component(const struct lfa_record *r)
 {
     switch (below(8)) {

@@ -4,14 +4,16 @@
 
 #include "lfa.h"
 
-/* An expression has one throw at most: C leaves open which of two would be the first. */
+/* Two throws stand in one expression only where C has one of them first (?:, &&): else each compiler would choose its own. */
 #define ONE_OF(list) (list)[below(sizeof(list) / sizeof *(list))]
 
 /* Any 64-bit number. */
 uint64_t any(void);
 
+/* A number from 0 to one less than the end. */
 uint64_t below(uint64_t end);
 
+/* Whether a chance of one in so many came true. */
 int one_in(uint64_t many);
 
 /* A board that lfa_describe takes. */

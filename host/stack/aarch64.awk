@@ -31,7 +31,7 @@ $2 !~ /^[a-z]/ { next }
     op = $2; args = $3
     if (op ~ /^(bl|b|b\..*|cbn?z|tbn?z)$/) goes(args)
     else if (op ~ /^bl?r/ && op != "brk" || op ~ /^ret/ && op args != "ret") stop(name ": goes by a register")
-    else if (op ~ /^adrp?$/ && args !~ /, "?\.L/) stop(name ": takes the address of " args)
+    else if (op ~ /^adrp?$/ && args !~ /, "?\.L/ || args ~ /, =/) stop(name ": takes the address of " args)
     else if (args ~ /\[sp.*\]!|\[sp\],/) moves_beside(op, args)
     else if (args ~ /^w?sp(,|$)/) moves(op, args)
 }

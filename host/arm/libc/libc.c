@@ -1,4 +1,7 @@
-/* The functions of these headers, and the start of a program, for Linux on AArch64. */
+/*
+ * What lfa.h, the programs of host/c and digest.c use of a C library, and the start of a program, for Linux on AArch64: so their runs
+ * need nothing but the kit's clang and qemu-aarch64.
+ */
 #include <stdint.h>
 #include <stdio.h>
 #include <string.h>

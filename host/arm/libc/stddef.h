@@ -1,4 +1,3 @@
-/* What the programs of host/c use of a C library, for AArch64: so their runs need nothing but the kit's clang and qemu-aarch64. */
 #ifndef STDDEF_H
 #define STDDEF_H
 
