@@ -14,7 +14,7 @@ enum { EVENTS = 1000000 };
 
 static uint64_t number;
 
-/* Each step can be undone, so two numbers that differ once stay apart until chance joins them. */
+/* Each step can be undone: two numbers that differ stay apart while the same words follow. */
 static void take(uint64_t word)
 {
     number = (number ^ word) * UINT64_C(0x9E3779B97F4A7C15);

@@ -1,10 +1,13 @@
-/* Dice with a seed, and the boards and events that they give: mostly with a meaning, sometimes without. */
+/*
+ * Dice with a seed, and the boards and events that they give: mostly with a meaning, sometimes without. Two throws stand in one
+ * expression only where C has one of them first (?:, &&): else each compiler would choose its own.
+ */
 #ifndef EVENTS_H
 #define EVENTS_H
 
 #include "lfa.h"
 
-/* Two throws stand in one expression only where C has one of them first (?:, &&): else each compiler would choose its own. */
+/* One of the places of an array. */
 #define ONE_OF(list) (list)[below(sizeof(list) / sizeof *(list))]
 
 /* Any 64-bit number. */
