@@ -1,6 +1,6 @@
 /*
  * The live firmware activation agent, as a host links it: a board's description and its record, one event at a time, the log, and
- * two questions that a log answers. The rules are document 01's; C99, and C++ as well. host/c/monitor.c is a monitor to copy.
+ * three questions that a log answers. The rules are document 01's; C99, and C++ as well. host/c/monitor.c is a monitor to copy.
  *
  * All that crosses is numbers, arrays of numbers, and structs of these. Whatever they hold, the answer is a stated one: nothing
  * here aborts, allocates or keeps anything between two calls. The library has no data that changes, its code may lie anywhere, and it
@@ -38,7 +38,7 @@
  * for this event's record (LFA_LOG_RECORD_BYTES) and, if CPUs are then held, for those until they are released: a call of each
  * powered CPU that is not held, and the report. Then lfa_log writes what was kept, and whoever waits is let go before the log
  * ends. host/c/monitor.c does this, and says what becomes of a CPU whose call is kept back. With LFA_MOST_LOG_RECORDS records a
- * log is full: store it away, and begin the next one with a board that starts fresh. Both questions read a log from a fresh board
+ * log is full: store it away, and begin the next one with a board that starts fresh. The questions read a log from a fresh board
  * on, so of a log that begins later they know too little; lfa_read_record reads any.
  *
  * Bytes between the fields of a struct (padding) are never looked at, and may change.
@@ -82,11 +82,12 @@ extern "C" {
 #define LFA_STACK_ABI 1024
 #define LFA_STACK_DESCRIBE 5120
 #define LFA_STACK_FRESH 9216
-#define LFA_STACK_STEP 17408
+#define LFA_STACK_STEP 23552
 #define LFA_STACK_LOG 1024
 #define LFA_STACK_READ_RECORD 1024
 #define LFA_STACK_PREPARED 1024
 #define LFA_STACK_STARTS 8192
+#define LFA_STACK_WHY 27648
 
 /* ---- Limits ---- */
 
@@ -209,7 +210,30 @@ enum lfa_refusal {
     LFA_REFUSAL_FIELD = 31,           /* log: unused field not 0, or a number too large for its field (above) */
     LFA_REFUSAL_UNKNOWN = 32,         /* log: kind, outcome or code unknown; event: kind unknown */
     LFA_REFUSAL_LOG = 33,             /* log: part of a record, over 1,024 of them, or a place past the end */
-    LFA_REFUSAL_NO_ROOM = 34          /* no room for 51 bytes */
+    LFA_REFUSAL_NO_ROOM = 34,         /* no room for 51 bytes */
+    LFA_REFUSAL_DEPARTS = 35          /* log: the rules refuse a record's event, or answer it otherwise than the record says */
+};
+
+/*
+ * The reasons that lfa_why gives, each the first rule of document 01 that applies to an ACTIVATE, in document 01's order. A new
+ * reason takes the next number.
+ */
+enum lfa_reason {
+    LFA_REASON_NONE = 0,             /* refused: there is no reason */
+    LFA_REASON_NOTHING_PREPARED = 1, /* -7: idle */
+    LFA_REASON_BEING_PREPARED = 2,   /* -7: preparing the component */
+    LFA_REASON_HALF_PREPARED = 3,    /* -7: the component is half prepared */
+    LFA_REASON_BOARD_DEAD = 4,       /* -7: dead */
+    LFA_REASON_OTHER_COMPONENT = 5,  /* -8: X1 is not the component */
+    LFA_REASON_OTHER_FLAGS = 6,      /* -8: flags above bit 0 */
+    LFA_REASON_NOT_OPTIONAL = 7,     /* -8: skip on a component that is not optional */
+    LFA_REASON_SKIP_IN_GATHERING = 8, /* -8: skip while CPUs gather */
+    LFA_REASON_NO_SKIP = 9,          /* -8: no skip in an activation without rendezvous */
+    LFA_REASON_BAD_ENTRY = 10,       /* -10: X3 is no good entry */
+    LFA_REASON_BEING_ACTIVATED = 11, /* -2: the component is being activated without rendezvous */
+    LFA_REASON_SKIPPED = 12,         /* started, without rendezvous */
+    LFA_REASON_HELD = 13,            /* held: CPUs are missing */
+    LFA_REASON_ALL_PRESENT = 14      /* started: all powered CPUs are held */
 };
 
 /* ---- The board and its record ---- */
@@ -268,6 +292,15 @@ struct lfa_call {
     uint64_t x2;
     uint64_t x3;
     uint64_t x4;
+};
+
+/* An ACTIVATE: the CPU that makes it, and its registers but X0. */
+struct lfa_activate {
+    uint64_t cpu;
+    uint64_t x1; /* component */
+    uint64_t x2; /* flags */
+    uint64_t x3; /* entry */
+    uint64_t x4; /* context id */
 };
 
 /* The end of a job. */
@@ -370,6 +403,15 @@ struct lfa_started {
     struct lfa_found started; /* none if refused */
 };
 
+/* The answer of lfa_why. In C++ the word struct stays, since the function has the same name. */
+struct lfa_why {
+    uint64_t refusal;        /* 0, or 20 to 25 for the board, 31, 32, 33, 35 for the log, or 2, 3, 4 for the caller */
+    size_t place;            /* with 31, 32 and 35 the place of the record to blame; else 0 */
+    uint64_t reason;         /* an enum lfa_reason; LFA_REASON_NONE if refused */
+    uint64_t component;      /* the component that reasons 2, 3, 5 and 11 name; else 0 */
+    struct lfa_cpus missing; /* with LFA_REASON_HELD the powered CPUs that are neither held nor the caller; else none */
+};
+
 /* The answer of lfa_abi. In C++ the word struct stays, since the function has the same name. */
 struct lfa_abi {
     uint64_t number; /* the library's LFA_ABI */
@@ -447,6 +489,15 @@ LFA_CALL struct lfa_prepared lfa_prepared(const uint8_t *log, size_t log_length,
  */
 LFA_CALL struct lfa_started lfa_starts(const uint8_t *board, size_t board_length, const uint8_t *log, size_t log_length,
                                        size_t place, struct lfa_call call);
+
+/*
+ * Why an ACTIVATE that is made at a place of a log is refused, held or started: the first rule of document 01 that applies, and for a
+ * held call which CPUs it waits for. The log is taken through the rules, from the fresh board that the description is of up to the
+ * place. Refusals of the board and the log come first, as in lfa_starts; then 35 with the place of the first record before that
+ * place whose event the rules refuse, or answer with another outcome or word 6; then 2, 3, 4 for the caller.
+ */
+LFA_CALL struct lfa_why lfa_why(const uint8_t *board, size_t board_length, const uint8_t *log, size_t log_length, size_t place,
+                                struct lfa_activate a);
 
 #ifdef __cplusplus
 }

@@ -44,10 +44,11 @@ static void take_record(const struct lfa_record *r)
 
 /* ---- What was met ---- */
 
-enum { REFUSALS = LFA_REFUSAL_NO_ROOM + 1 };
+enum { REFUSALS = LFA_REFUSAL_DEPARTS + 1 };
 
 static uint64_t states[LFA_STATE_DEAD + 1], callers[LFA_CALLER_GONE + 1], releases[LFA_RELEASE_BY_ENTRY + 1];
 static uint64_t refused_events[REFUSALS], refused_boards[REFUSALS], refused_logs[REFUSALS], refused_starts[REFUSALS];
+static uint64_t refused_reasons[REFUSALS], reasons[LFA_REASON_ALL_PRESENT + 1];
 static uint64_t prepared_places, started_places;
 
 #define COUNT(list, at) count(list, sizeof(list) / sizeof *(list), at)
@@ -190,7 +191,17 @@ static void log_damaged(struct lfa_event e, struct lfa_answer a)
     COUNT(refused_logs, r.refusal);
 }
 
-/* Both questions to the log, at its end, or at any place of it and one behind; now and then with a damaged board. */
+/* Why the call, as an ACTIVATE, would get its answer. */
+static void ask_why(const uint8_t *board, size_t length, size_t place, struct lfa_call c)
+{
+    struct lfa_activate a = {.cpu = c.cpu, .x1 = c.x1, .x2 = one_in(2) ? c.x2 : below(3), .x3 = c.x3, .x4 = c.x4};
+    struct lfa_why w = lfa_why(board, walked.board_length, walked.log, length, place, a);
+    TAKE(w);
+    COUNT(refused_reasons, w.refusal);
+    if (w.refusal == LFA_REFUSAL_NONE) COUNT(reasons, w.reason);
+}
+
+/* The questions to the log, at its end, or at any place of it and one behind; now and then with a damaged board. */
 static void ask(void)
 {
     size_t records = walked.logged / LFA_LOG_RECORD_BYTES;
@@ -208,6 +219,7 @@ static void ask(void)
     COUNT(refused_starts, s.refusal);
     prepared_places += p.prepared.found;
     started_places += s.started.found;
+    ask_why(board, length, place, next.call);
 }
 
 /* The same with a log of which one bit is another, and the record of that bit. */
@@ -262,6 +274,8 @@ int main(void)
     PRINT(refused_boards);
     PRINT(refused_logs);
     PRINT(refused_starts);
+    PRINT(refused_reasons);
+    PRINT(reasons);
     printf("places where a component is prepared: %" PRIu64 ", where one starts: %" PRIu64 "\n", prepared_places, started_places);
     printf("the running number is %" PRIx64 "\n", number);
     return 0;

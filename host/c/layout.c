@@ -46,6 +46,13 @@ PLACE(lfa_call, x2, 24);
 PLACE(lfa_call, x3, 32);
 PLACE(lfa_call, x4, 40);
 
+LFA_SIZE(lfa_activate, 40);
+PLACE(lfa_activate, cpu, 0);
+PLACE(lfa_activate, x1, 8);
+PLACE(lfa_activate, x2, 16);
+PLACE(lfa_activate, x3, 24);
+PLACE(lfa_activate, x4, 32);
+
 LFA_SIZE(lfa_report, 16);
 PLACE(lfa_report, component, 0);
 PLACE(lfa_report, code, 8);
@@ -98,6 +105,13 @@ LFA_SIZE(lfa_started, 32);
 PLACE(lfa_started, refusal, 0);
 PLACE(lfa_started, place, 8);
 PLACE(lfa_started, started, 16);
+
+LFA_SIZE(lfa_why, 40);
+PLACE(lfa_why, refusal, 0);
+PLACE(lfa_why, place, 8);
+PLACE(lfa_why, reason, 16);
+PLACE(lfa_why, component, 24);
+PLACE(lfa_why, missing, 32);
 
 LFA_SIZE(lfa_log_record, 80);
 PLACE(lfa_log_record, kind, 0);

@@ -1,7 +1,7 @@
 /*
  * Every number of lfa.h, as the library has it. A run of a board with 64 CPUs and 32 components through the monitor of monitor.c,
- * with every function, code, flag and state, each refusal of an event, and CPU 63; then each other refusal, and the limits. What
- * comes from the library is printed in the header's words, and numbers.stdout has the words that document 01 gives for it.
+ * with every function, code, flag and state, each refusal of an event, and CPU 63; then each reason, each other refusal, and the
+ * limits. What comes from the library is printed in the header's words, and numbers.stdout has the words that document 01 gives for it.
  */
 #include <inttypes.h>
 #include <stdio.h>
@@ -33,7 +33,7 @@ static const struct lfa_event RUN[] = {
     CALL(0, CPU_ON, .x1 = 64, .x2 = 0x1000),
     CALL(64, VERSION, .x1 = 0),
     CALL(62, VERSION, .x1 = 0),
-    /* an update that skips the rendezvous, each of its jobs in two parts */
+    /* an update that skips the rendezvous, each of its jobs in two parts, after one that is cancelled */
     IMAGE(FIXED, 5),
     PRIMED(SKIPS, LFA_CODE_DONE),
     IMAGE(SKIPS, 4),
@@ -44,6 +44,10 @@ static const struct lfa_event RUN[] = {
     CALL(63, VERSION, .x1 = 0),
     PRIMED(SKIPS, LFA_CODE_BY_RESET),
     PRIMED(SKIPS, LFA_CODE_AGAIN),
+    CALL(63, PRIME, .x1 = SKIPS),
+    PRIMED(SKIPS, LFA_CODE_DONE),
+    CALL(63, ACTIVATE, .x1 = SKIPS),
+    CALL(0, CANCEL, .x1 = SKIPS),
     CALL(63, PRIME, .x1 = SKIPS),
     PRIMED(SKIPS, LFA_CODE_DONE),
     CALL(63, ACTIVATE, .x1 = SKIPS, .x2 = LFA_SKIP),
@@ -77,6 +81,34 @@ static const struct lfa_event RUN[] = {
     CALL(0, ACTIVATE, .x1 = RESETS, .x3 = 0x1200),
     ACTIVATED(RESETS, FAILED_FOR_GOOD),
     {.kind = NO_KIND},
+};
+
+/* Asked at a place of the run's log: why an ACTIVATE of this CPU would get its answer. */
+static const struct question {
+    size_t place;
+    struct lfa_activate a;
+} QUESTIONS[] = {
+    {1, {.cpu = 0, .x1 = SKIPS}},
+    /* preparing, then half-prepared */
+    {14, {.cpu = 0, .x1 = SKIPS}},
+    {14, {.cpu = 64, .x1 = SKIPS}},
+    {14, {.cpu = 62, .x1 = SKIPS}},
+    {14, {.cpu = 63, .x1 = SKIPS}},
+    {15, {.cpu = 0, .x1 = SKIPS}},
+    /* ready, then gathering */
+    {17, {.cpu = 0, .x1 = RESETS}},
+    {17, {.cpu = 0, .x1 = SKIPS, .x2 = LFA_SKIP << 1}},
+    {17, {.cpu = 0, .x1 = SKIPS}},
+    {17, {.cpu = 0, .x1 = SKIPS, .x2 = LFA_SKIP}},
+    {18, {.cpu = 0, .x1 = SKIPS, .x2 = LFA_SKIP}},
+    {18, {.cpu = 0, .x1 = SKIPS}},
+    /* alone, ready to reset, dead, and past the end */
+    {22, {.cpu = 0, .x1 = SKIPS}},
+    {22, {.cpu = 0, .x1 = SKIPS, .x2 = LFA_SKIP}},
+    {31, {.cpu = 0, .x1 = RESETS, .x2 = LFA_SKIP}},
+    {31, {.cpu = 0, .x1 = RESETS, .x3 = 0x2000}},
+    {50, {.cpu = 0, .x1 = RESETS}},
+    {51, {.cpu = 0, .x1 = RESETS}},
 };
 
 static struct lfa_board large_board(void)
@@ -158,6 +190,21 @@ static void long_logs(void)
     line("a log of a record more", lfa_prepared(log, sizeof log, 0).refusal);
 }
 
+static void ask_why(const struct monitor *m, size_t place, struct lfa_activate a)
+{
+    struct lfa_why w = lfa_why(m->board, m->board_length, m->log, m->logged, place, a);
+    printf("CPU %" PRIu64 " at place %zu:", a.cpu, place);
+    print_why(&w);
+}
+
+/* Every reason; then a log in which VERSION returned something else. */
+static void reasons(struct monitor *m)
+{
+    for (size_t i = 0; i < sizeof QUESTIONS / sizeof *QUESTIONS; i++) ask_why(m, QUESTIONS[i].place, QUESTIONS[i].a);
+    m->log[LFA_LOG_RECORD_BYTES - 1] ^= 1;
+    ask_why(m, 1, QUESTIONS[0].a);
+}
+
 static void events(struct monitor *m)
 {
     struct lfa_event version = CALL(0, VERSION, .x1 = 0);
@@ -176,6 +223,7 @@ int main(void)
     struct lfa_board board = large_board();
     if (monitor_start(&m, &board) != LFA_REFUSAL_NONE) return 1;
     for (size_t i = 0; i < sizeof RUN / sizeof *RUN; i++) tell(&m, &RUN[i]);
+    reasons(&m);
     events(&m);
     boards(&m);
     log_records();

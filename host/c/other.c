@@ -49,3 +49,10 @@ struct lfa_started lfa_starts(const uint8_t *board, size_t board_length, const u
     (void)board, (void)board_length, (void)log, (void)log_length, (void)place, (void)call;
     return (struct lfa_started){.refusal = LFA_REFUSAL_NONE};
 }
+
+struct lfa_why lfa_why(const uint8_t *board, size_t board_length, const uint8_t *log, size_t log_length, size_t place,
+                       struct lfa_activate a)
+{
+    (void)board, (void)board_length, (void)log, (void)log_length, (void)place, (void)a;
+    return (struct lfa_why){.refusal = LFA_REFUSAL_NONE};
+}

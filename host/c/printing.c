@@ -58,6 +58,25 @@ static const char *const REFUSALS[] = {
     [LFA_REFUSAL_UNKNOWN] = "unknown",
     [LFA_REFUSAL_LOG] = "no log, or no place of it",
     [LFA_REFUSAL_NO_ROOM] = "no room for a record",
+    [LFA_REFUSAL_DEPARTS] = "the rules say otherwise",
+};
+
+static const char *const REASONS[] = {
+    [LFA_REASON_NONE] = "no reason",
+    [LFA_REASON_NOTHING_PREPARED] = "returned -7: nothing is prepared",
+    [LFA_REASON_BEING_PREPARED] = "returned -7: it is being prepared",
+    [LFA_REASON_HALF_PREPARED] = "returned -7: it is half prepared",
+    [LFA_REASON_BOARD_DEAD] = "returned -7: the board is dead",
+    [LFA_REASON_OTHER_COMPONENT] = "returned -8: X1 is another component",
+    [LFA_REASON_OTHER_FLAGS] = "returned -8: flags above bit 0",
+    [LFA_REASON_NOT_OPTIONAL] = "returned -8: skip on a component that is not optional",
+    [LFA_REASON_SKIP_IN_GATHERING] = "returned -8: skip while gathering",
+    [LFA_REASON_NO_SKIP] = "returned -8: no skip in an activation without rendezvous",
+    [LFA_REASON_BAD_ENTRY] = "returned -10: X3 is no good entry",
+    [LFA_REASON_BEING_ACTIVATED] = "returned -2: it is being activated without rendezvous",
+    [LFA_REASON_SKIPPED] = "started: skipped",
+    [LFA_REASON_HELD] = "held: CPUs are missing",
+    [LFA_REASON_ALL_PRESENT] = "started: all present",
 };
 
 #define WORD(words, number) word(words, sizeof(words) / sizeof *(words), number)
@@ -104,6 +123,19 @@ void print_refusal(uint64_t refusal)
     if (refusal == MONITOR_OTHER_LIBRARY) printf(" refused, another library;");
     else if (refusal == LFA_REFUSAL_NONE) printf(" taken;");
     else printf(" refused %" PRIu64 ", %s;", refusal, WORD(REFUSALS, refusal));
+}
+
+void print_why(const struct lfa_why *w)
+{
+    if (w->refusal != LFA_REFUSAL_NONE) {
+        print_refusal(w->refusal);
+        printf(" place %zu, %s\n", w->place, WORD(REASONS, w->reason));
+        return;
+    }
+    printf(" %s; component %" PRIu64 ", CPUs", WORD(REASONS, w->reason), w->component);
+    for (uint64_t cpu = 0; cpu < LFA_MOST_CPUS; cpu++)
+        if (w->missing.bits >> cpu & 1) printf(" %" PRIu64, cpu);
+    printf("\n");
 }
 
 void print_record(const struct lfa_log_record *r)

@@ -10,6 +10,9 @@ void tell(struct monitor *m, const struct lfa_event *e);
 /* Prints a refusal, number and words. */
 void print_refusal(uint64_t refusal);
 
+/* Prints what lfa_why says of an ACTIVATE: its reason, with the component and the CPUs that it names, or a refusal with its place. */
+void print_why(const struct lfa_why *w);
+
 /* Prints one record of the log. */
 void print_record(const struct lfa_log_record *r);
 

@@ -1,7 +1,7 @@
 -- A test at every number below n, and the laws of a loop that goes through them. Assumes nothing.
 use Prim.Native.Nat.{ℕ, zero, suc, _+_, _<_, _≤_}
 use mathlib.Core.Path.{_≡_, refl, sym, ap, _∙_}
-use mathlib.Core.Bool.{Bool, true, false, _&&_, and-false}
+use mathlib.Core.Bool.{Bool, true, false, _&&_, and-false, and-true}
 use mathlib.Core.List.{List, [], _∷_, _++_}
 use lib.Dec.{eqb, ltb}
 use borrow.Author.Tests.{eqb-true, ltb-true}
@@ -48,6 +48,21 @@ pub all-of : (n : ℕ) (f : ℕ → Bool) → ((i : ℕ) → i < n → f i ≡ t
 unfolding allBelow
 all-of zero f h = refl
 all-of (suc n) f h = rw (all-of n f (λ i l. h i (omega arith)), h n (omega arith))
+
+-- where the test does not hold at every place, there is one at which it fails
+pub record Failing (n : ℕ) (f : ℕ → Bool) : Type 0 where
+  pub at : ℕ
+  pub below : at < n
+  pub fails : f at ≡ false
+
+pub all-not : (n : ℕ) (f : ℕ → Bool) → allBelow n f ≡ false → Failing n f
+unfolding allBelow
+all-not zero f e = absurd (not-both refl e)
+all-not (suc n) f e = here (f n) refl (λ q. all-not n f q) e
+  where
+    here : (t : Bool) → f n ≡ t → (allBelow n f ≡ false → Failing n f) → (allBelow n f && t) ≡ false → Failing (suc n) f
+    here false p on q = record { at = n; below = omega arith; fails = p }
+    here true p on q = let o = on (sym (and-true (allBelow n f)) ∙ q) in record { at = o .at; below = omega (arith, o .below); fails = o .fails }
 
 -- two tests that agree at each place
 pub all-same : (n : ℕ) (f g : ℕ → Bool) → ((i : ℕ) → i < n → f i ≡ g i) → allBelow n f ≡ allBelow n g

@@ -1,5 +1,4 @@
 // takes a log through the agent and the plain reader side by side: bench BOARD LOG, two file names
-mod files;
 mod words;
 
 ghost use mathlib.Core.Path.{_≡_};
@@ -10,7 +9,7 @@ ghost use Rattle.logbook.specs.declared.Checked.the-variants.{Records, Refused}
 ghost use Rattle.trace.specs.Turn.{turnAt};
 use board::Board;
 use board::Verdict;
-use files::File;
+use given::File;
 use log_record::LogRecord;
 use logbook::Checked;
 use logbook::Flaw;
@@ -28,8 +27,9 @@ const LOG_ROOM: usize = logbook::MOST_BYTES + 1;
 fn line(b: Board, log: &[u8], k: usize, r: LogRecord, t: Turn)
     requires { ⌜ (r ≡ said (recordAt (now log) k)) × (t ≡ turnAt b (now log) k) ⌝ }
 {
-    let replayed = t.replayed;
-    let agent = t.agent;
+    let passed = t.agent;
+    let replayed = passed.replayed;
+    let agent = passed.started;
     let reader = t.reader;
     number(k as u64);
     text(b" ");
@@ -40,7 +40,7 @@ fn line(b: Board, log: &[u8], k: usize, r: LogRecord, t: Turn)
     words::started(agent);
     text(b" ");
     words::started(reader);
-    if t.differs {
+    if passed.differs {
         text(b" differs: ");
         words::logged(r);
     }
@@ -59,7 +59,8 @@ fn lines(board: &[u8], b: Board, log: &[u8], n: usize)
         let r = logbook::said_at(log, k);
         let t = trace::turned(rec, b, story, r);
         line(b, log, k, r, t);
-        rec = t.rec;
+        let passed = t.agent;
+        rec = passed.rec;
         story = reader::told(story, r);
         k += 1;
     }
@@ -106,9 +107,9 @@ fn main() {
     }
     let mut board = [0u8; BOARD_ROOM];
     let mut log = [0u8; LOG_ROOM];
-    match files::read(1, &mut board) {
+    match given::read_file(1, &mut board) {
         File::Unread => return,
-        File::Bytes(m) => match files::read(2, &mut log) {
+        File::Bytes(m) => match given::read_file(2, &mut log) {
             File::Unread => return,
             File::Bytes(n) => bench(&board[..m], &log[..n]),
         },

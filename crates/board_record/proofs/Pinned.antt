@@ -4,6 +4,8 @@ use Rattle.board_record.proofs.fresh.Kinds as fresh-kinds
 use Rattle.board_record.proofs.fresh.Reads as fresh-reads
 use Rattle.board_record.proofs.subject_of.Kinds as subject-of-kinds
 use Rattle.board_record.proofs.subject_of.Reads as subject-of-reads
+use Rattle.board_record.proofs.subject_number.Kinds as subject-number-kinds
+use Rattle.board_record.proofs.subject_number.Reads as subject-number-reads
 use Rattle.board_record.proofs.is_gathering.Kinds as is-gathering-kinds
 use Rattle.board_record.proofs.is_gathering.Reads as is-gathering-reads
 use Rattle.board_record.proofs.skips_rendezvous.Kinds as skips-rendezvous-kinds
@@ -26,6 +28,9 @@ fresh-pinned κs a z z′ ws ws′ p q = just p q
 
 pub subject-of-pinned : OneOutcome 0 subject-of-kinds.ps subject-of-kinds.r subject-of-reads.Post
 subject-of-pinned κs a z z′ ws ws′ p q = just p q
+
+pub subject-number-pinned : OneOutcome 0 subject-number-kinds.ps subject-number-kinds.r subject-number-reads.Post
+subject-number-pinned κs a z z′ ws ws′ p q = just p q
 
 pub is-gathering-pinned : OneOutcome 0 is-gathering-kinds.ps is-gathering-kinds.r is-gathering-reads.Post
 is-gathering-pinned κs a z z′ ws ws′ p q = just p q

@@ -58,8 +58,14 @@ holdingOf Dead = Nobody
 
 -- a state's place in document 01's table of rules, which is also its number for a host; first the places that rules ask
 -- for by name
+abbrev pub idlePlace : ℕ
+idlePlace = 0
+
 abbrev pub preparingPlace : ℕ
 preparingPlace = 1
+
+abbrev pub halfPreparedPlace : ℕ
+halfPreparedPlace = 2
 
 abbrev pub gatheringPlace : ℕ
 gatheringPlace = 4
@@ -73,16 +79,19 @@ alonePlace = 6
 abbrev pub halfActivatedPlace : ℕ
 halfActivatedPlace = 7
 
+abbrev pub deadPlace : ℕ
+deadPlace = 8
+
 abbrev pub placeOf : State → ℕ
-placeOf Idle = 0
+placeOf Idle = idlePlace
 placeOf (Preparing c) = preparingPlace
-placeOf (HalfPrepared c) = 2
+placeOf (HalfPrepared c) = halfPreparedPlace
 placeOf (Ready c) = 3
 placeOf (Gathering c) = gatheringPlace
 placeOf (Together c) = togetherPlace
 placeOf (Alone c) = alonePlace
 placeOf (HalfActivated c) = halfActivatedPlace
-placeOf Dead = 8
+placeOf Dead = deadPlace
 
 -- the states in the order of that table, about component c where they have one
 abbrev pub inOrder : ℕ → List State

@@ -2,7 +2,7 @@
 mod standing;
 
 ghost use mathlib.Core.Path.{_≡_};
-ghost use Rattle.board_record.specs.Record.{subjectOf, holdingOf, placeOf, isGathering, isRendezvous, isAlone, skipsRendezvous, isFor, isPending, versionOf, freshOf};
+ghost use Rattle.board_record.specs.Record.{subjectOf, subjectNumber, holdingOf, placeOf, isGathering, isRendezvous, isAlone, skipsRendezvous, isFor, isPending, versionOf, freshOf};
 ghost use Rattle.board_record.specs.WellFormed.{wellFormed};
 use board::Board;
 use cpuset::CpuSet;
@@ -24,7 +24,11 @@ pub enum State {
 pub const STATES: usize = 9;
 
 // The places of these in the table of rules that rules ask for by name.
+pub const IDLE: usize = 0;
+
 pub const PREPARING: usize = 1;
+
+pub const HALF_PREPARED: usize = 2;
 
 const GATHERING: usize = 4;
 
@@ -33,6 +37,8 @@ pub const TOGETHER: usize = 5;
 pub const ALONE: usize = 6;
 
 const HALF_ACTIVATED: usize = 7;
+
+pub const DEAD: usize = 8;
 
 // What a state is about: nothing, or a component.
 pub enum Subject {
@@ -96,6 +102,16 @@ pub fn subject_of(s: State) -> Subject
     }
 }
 
+// The number of that component; 0 where there is none.
+pub fn subject_number(s: State) -> u64
+    ensures { λ r. ⌜ r ≡ subjectNumber s ⌝ }
+{
+    match subject_of(s) {
+        Subject::Nothing => 0,
+        Subject::Of(c) => c,
+    }
+}
+
 // Which of the powered CPUs a state holds.
 fn holding_of(s: State) -> Holding
     ensures { λ r. ⌜ r ≡ holdingOf s ⌝ }
@@ -118,15 +134,15 @@ pub fn place_of(s: State) -> usize
     ensures { λ r. ⌜ r ≡ placeOf s ⌝ }
 {
     match s {
-        State::Idle => 0,
+        State::Idle => IDLE,
         State::Preparing(_) => PREPARING,
-        State::HalfPrepared(_) => 2,
+        State::HalfPrepared(_) => HALF_PREPARED,
         State::Ready(_) => 3,
         State::Gathering(_) => GATHERING,
         State::Together(_) => TOGETHER,
         State::Alone(_) => ALONE,
         State::HalfActivated(_) => HALF_ACTIVATED,
-        State::Dead => 8,
+        State::Dead => DEAD,
     }
 }
 

@@ -8,9 +8,9 @@ use lib.Dec.{ltb, eqb, lit<}
 use lib.ListN.{getD}
 use lib.Seq.{ext-getD}
 use lib.Bits.{bitOr, or-lt, xor-lt, and-le-l}
-use borrow.Author.Tests.{lt-ltb, le-ltb, eqb-true, eq-eqb, ne-eqb, not-false}
+use borrow.Author.Tests.{lt-ltb, le-ltb, eqb-true, eq-eqb, ne-eqb, not-false, not-true}
 use Rattle.basics.specs.Choice.{not-both, refuted}
-use Rattle.basics.specs.Every.{all-at, all-of}
+use Rattle.basics.specs.Every.{all-at, all-of, all-not}
 use Rattle.basics.specs.Order.{lt-cases, eq-cases}
 use Rattle.basics.specs.Places.{firsts, getD-firsts}
 use Rattle.cpuset.specs.Bit.{bit, bit-zero, bit-or, bitLess, bit-less, less-none}
@@ -131,6 +131,16 @@ none-has s e j = rw (same-is s noneOf e) (has-none j)
 
 pub none-of : (s : CpuSet) → Set s → ((j : ℕ) → j < room → hasOf s j ≡ false) → sameOf s noneOf ≡ true
 none-of s p h = same-eq s noneOf (same-members s noneOf p set-none λ j l. h j l ∙ sym (has-none j))
+
+-- a set that is not empty has a member
+pub record Member (s : CpuSet) : Type 0 where
+  pub at : ℕ
+  pub has : hasOf s at ≡ true
+
+pub some-has : (s : CpuSet) → Set s → sameOf s noneOf ≡ false → Member s
+some-has s p e =
+    let f = all-not room (λ j. not (hasOf s j)) (refuted _ (λ h. not-both (none-of s p (λ j l. not-true (hasOf s j) (all-at room _ h j l))) e)) in
+    record { at = f .at; has = not-false (hasOf s (f .at)) (f .fails) }
 
 pub within-has : (s t : CpuSet) → withinOf s t ≡ true → (j : ℕ) → hasOf s j ≡ true → hasOf t j ≡ true
 within-has s t e j h =

@@ -16,6 +16,8 @@ use Rattle.flat.proofs.prepared.Kinds as prepared-kinds
 use Rattle.flat.proofs.prepared.Reads as prepared-reads
 use Rattle.flat.proofs.starts.Kinds as starts-kinds
 use Rattle.flat.proofs.starts.Reads as starts-reads
+use Rattle.flat.proofs.why.Kinds as why-kinds
+use Rattle.flat.proofs.why.Reads as why-reads
 
 pub abi-pinned : OneOutcome 0 abi-kinds.ps abi-kinds.r abi-reads.Post
 abi-pinned κs a z z′ ws ws′ p q = just p q
@@ -40,3 +42,6 @@ prepared-pinned κs a z z′ ws ws′ p q = just p q
 
 pub starts-pinned : OneOutcome 2 starts-kinds.ps starts-kinds.r starts-reads.Post
 starts-pinned κs a z z′ ws ws′ p q = just p q
+
+pub why-pinned : OneOutcome 2 why-kinds.ps why-kinds.r why-reads.Post
+why-pinned κs a z z′ ws ws′ p q = just p q

@@ -29,6 +29,8 @@ use Rattle.logbook.specs.declared.Primed.{Primed}
 use Rattle.reader.specs.Numbers.{foundIn as startedIn, componentIn as startedComponent, Numbers as StartNumbers, refusedWith as notStartedWith, numbersOf as startNumbers}
 use Rattle.reader.specs.declared.Answer.{Answer as StartAnswer}
 use Rattle.reader.specs.declared.Started.{Started}
+use Rattle.reason.specs.Numbers.{Numbers as ReasonNumbers, numbersOf as reasonNumbers}
+use Rattle.reason.specs.declared.Explained.{Explained}
 use Rattle.trace.specs.Logged.{loggedOf, ofKind}
 use Rattle.flat.specs.declared.FlatAnswer.{FlatAnswer}
 use Rattle.flat.specs.declared.FlatEvent.{FlatEvent}
@@ -36,6 +38,7 @@ use Rattle.flat.specs.declared.FlatFound.{FlatFound}
 use Rattle.flat.specs.declared.FlatPrepared.{FlatPrepared}
 use Rattle.flat.specs.declared.FlatRead.{FlatRead}
 use Rattle.flat.specs.declared.FlatStarted.{FlatStarted}
+use Rattle.flat.specs.declared.FlatWhy.{FlatWhy}
 use Rattle.flat.specs.declared.FlatWritten.{FlatWritten}
 use Rattle.trace.specs.declared.Read.{Read}
 use Rattle.trace.specs.declared.Read.the-variants.{Known, Unknown}
@@ -125,3 +128,10 @@ logRefused f = notStarted (logNumber (f .refusal)) (f .place)
 
 abbrev pub startedBy : StartAnswer → FlatStarted
 startedBy a = startedWith (startNumbers a)
+
+-- ---- why an ACTIVATE gets its answer
+unfoldable pub whyWith : ReasonNumbers → FlatWhy
+whyWith n = record { refusal = n .refusal; place = n .place; reason = n .reason; component = n .component; missing = n .missing }
+
+abbrev pub whyBy : Explained → FlatWhy
+whyBy e = whyWith (reasonNumbers e)

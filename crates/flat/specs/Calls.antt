@@ -1,4 +1,4 @@
--- What a host's calls answer: the agent, the log and the plain reader through numbers. Assumes nothing.
+-- What a host's calls answer: the agent, the log, the plain reader and reasons through numbers. Assumes nothing.
 use Prim.Native.Nat.{ℕ}
 use mathlib.Core.List.{List}
 use Rattle.basics.specs.Choice.{pick}
@@ -23,7 +23,9 @@ use Rattle.log_record.specs.Rules.{numberOf as logNumber}
 use Rattle.log_record.specs.declared.Refusal.the-variants as log-refusal
 use Rattle.logbook.specs.Prepared.{preparedAt}
 use Rattle.reader.specs.Starts.{startsAt}
-use Rattle.flat.specs.Answers.{eventIn, refusedAnswer, answerOf, loggedIn, writtenBy, describedBy, readBy, preparedBy, startedBy}
+use Rattle.reason.specs.Explained.{explainedOf}
+use Rattle.reason.specs.declared.Activate.{Activate}
+use Rattle.flat.specs.Answers.{eventIn, refusedAnswer, answerOf, loggedIn, writtenBy, describedBy, readBy, preparedBy, startedBy, whyBy}
 use Rattle.flat.specs.Records.{flatWith, flatOf, boardIn, recordIn, isFlat, hasFlags, zeroRecord}
 use Rattle.flat.specs.declared.FlatAbi.{FlatAbi}
 use Rattle.flat.specs.declared.FlatAnswer.{FlatAnswer}
@@ -35,6 +37,7 @@ use Rattle.flat.specs.declared.FlatRead.{FlatRead}
 use Rattle.flat.specs.declared.FlatRecord.{FlatRecord}
 use Rattle.flat.specs.declared.FlatStarted.{FlatStarted}
 use Rattle.flat.specs.declared.FlatStepped.{FlatStepped}
+use Rattle.flat.specs.declared.FlatWhy.{FlatWhy}
 use Rattle.flat.specs.declared.FlatWritten.{FlatWritten}
 use Rattle.trace.specs.declared.Read.{Read}
 use Rattle.trace.specs.declared.Read.the-variants.{Known, Unknown}
@@ -110,3 +113,6 @@ preparedIn log place = preparedBy (preparedAt log place)
 
 unfoldable pub startedIn : List ℕ → List ℕ → ℕ → Call → FlatStarted
 startedIn board log place call = startedBy (startsAt board log place call)
+
+unfoldable pub whyIn : List ℕ → List ℕ → ℕ → Activate → FlatWhy
+whyIn board log place a = whyBy (explainedOf board log place a)

@@ -1,10 +1,11 @@
 // What crosses to a host: numbers, arrays of numbers, and structs of these. Whatever they hold, each gets a stated answer.
 mod answers;
+mod reasons;
 mod records;
 
 ghost use mathlib.Core.Path.{_≡_};
 ghost use lib.ListN.{length};
-ghost use Rattle.flat.specs.Calls.{abiOf, describedOf, descriptionOf, readIn, freshIn, noEvent, stepOf, entriesOf, contextsOf, writtenOf, bufferOf, preparedIn, startedIn};
+ghost use Rattle.flat.specs.Calls.{abiOf, describedOf, descriptionOf, readIn, freshIn, noEvent, stepOf, entriesOf, contextsOf, writtenOf, bufferOf, preparedIn, startedIn, whyIn};
 use agent::Freed;
 use board::MOST_COMPONENTS;
 use board::MOST_CPUS;
@@ -13,6 +14,7 @@ use board_record::Record;
 use codes::Call;
 use cpuset::CpuSet;
 use log_record::LogRecord;
+use reason::Activate;
 use rules::Image;
 use rules::Registers;
 use rules::Report;
@@ -144,6 +146,17 @@ pub struct FlatStarted {
     pub started: FlatFound,
 }
 
+// The number of a reason, from 1 on, with the component and the CPUs that it names; or the number of a refusal and the place of
+// the record to blame.
+#[repr(C)]
+pub struct FlatWhy {
+    pub refusal: u64,
+    pub place: usize,
+    pub reason: u64,
+    pub component: u64,
+    pub missing: CpuSet,
+}
+
 // Which library this is.
 pub fn abi() -> FlatAbi
     ensures { λ r. ⌜ r ≡ abiOf ⌝ }
@@ -246,4 +259,11 @@ pub fn starts(board: &[u8], log: &[u8], place: usize, call: Call) -> FlatStarted
     ensures { λ r. ⌜ r ≡ startedIn (now (board .entry)) (now (log .entry)) place call ⌝ }
 {
     answers::started(reader::starts_at(board, log, place, call))
+}
+
+// Why an ACTIVATE made at a place of a log gets its answer.
+pub fn why(board: &[u8], log: &[u8], place: usize, a: Activate) -> FlatWhy
+    ensures { λ r. ⌜ r ≡ whyIn (now (board .entry)) (now (log .entry)) place a ⌝ }
+{
+    reasons::explained(reason::explain(board, log, place, a))
 }

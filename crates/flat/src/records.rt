@@ -10,27 +10,16 @@ use board::UUID_BYTES;
 use board_record::Record;
 use board_record::STATES;
 use board_record::State;
-use board_record::Subject;
 ghost use mathlib.Core.Path.{_≡_};
 ghost use Prim.Native.Nat.{_≤_, min};
 ghost use Rattle.board.specs.Description.{mostComponents};
 ghost use Rattle.board.specs.Packed.{digitOf};
-ghost use Rattle.board_record.specs.Record.{subjectNumber};
 ghost use Rattle.flat.specs.Records.{stateIn, isState, flatComponent, componentIn, isFlatComponent, blankFlat, flatComponents, componentsIn, areFlatComponents, hasFlags, flatFlags, flagsIn, areFlags, flatBoard, boardIn, flatWith, flatOf, recordIn, isFlat, zeroRecord};
 
 fn digit(b: bool) -> u8
     ensures { λ r. ⌜ r ≡ digitOf b ⌝ }
 {
     if b { 1 } else { 0 }
-}
-
-fn subject_number(s: State) -> u64
-    ensures { λ r. ⌜ r ≡ subjectNumber s ⌝ }
-{
-    match board_record::subject_of(s) {
-        Subject::Nothing => 0,
-        Subject::Of(c) => c,
-    }
 }
 
 // The state of this number and component; of a number that is no state's, which `is_state` refuses, dead.
@@ -55,7 +44,7 @@ fn is_state(number: u64, c: u64) -> bool
     ensures { λ r. ⌜ r ≡ isState number c ⌝ }
 {
     if number < STATES as u64 {
-        return subject_number(state(number, c)) == c;
+        return board_record::subject_number(state(number, c)) == c;
     }
     false
 }
@@ -248,7 +237,7 @@ pub(crate) fn flat_with(b: FlatBoard, rec: Record) -> FlatRecord
         pending: flat_flags(pending),
         version: version,
         state: board_record::place_of(state) as u64,
-        subject: subject_number(state),
+        subject: board_record::subject_number(state),
         on: on,
         held: held,
         entry: entry,

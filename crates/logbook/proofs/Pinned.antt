@@ -2,6 +2,8 @@
 use Rattle.basics.proofs.Pin.{OneOutcome, just}
 use Rattle.logbook.proofs.record_at.Kinds as record-at-kinds
 use Rattle.logbook.proofs.record_at.Reads as record-at-reads
+use Rattle.logbook.proofs.is_within.Kinds as is-within-kinds
+use Rattle.logbook.proofs.is_within.Reads as is-within-reads
 use Rattle.logbook.proofs.check_log.Kinds as check-log-kinds
 use Rattle.logbook.proofs.check_log.Reads as check-log-reads
 use Rattle.logbook.proofs.prepared_at.Kinds as prepared-at-kinds
@@ -21,6 +23,9 @@ use Rattle.logbook.proofs.deciding.primed_by.Reads as primed-by-reads
 
 pub record-at-pinned : OneOutcome 1 record-at-kinds.ps record-at-kinds.r record-at-reads.Post
 record-at-pinned κs a z z′ ws ws′ p q = just (p .0) (q .0)
+
+pub is-within-pinned : OneOutcome 0 is-within-kinds.ps is-within-kinds.r is-within-reads.Post
+is-within-pinned κs a z z′ ws ws′ p q = just p q
 
 pub check-log-pinned : OneOutcome 1 check-log-kinds.ps check-log-kinds.r check-log-reads.Post
 check-log-pinned κs a z z′ ws ws′ p q = just (p .0) (q .0)

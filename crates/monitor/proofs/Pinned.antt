@@ -22,6 +22,8 @@ use Rattle.monitor.proofs.lfa_prepared.Kinds as lfa-prepared-kinds
 use Rattle.monitor.proofs.lfa_prepared.Reads as lfa-prepared-reads
 use Rattle.monitor.proofs.lfa_starts.Kinds as lfa-starts-kinds
 use Rattle.monitor.proofs.lfa_starts.Reads as lfa-starts-reads
+use Rattle.monitor.proofs.lfa_why.Kinds as lfa-why-kinds
+use Rattle.monitor.proofs.lfa_why.Reads as lfa-why-reads
 
 pub lfa-abi-pinned : OneOutcome 0 lfa-abi-kinds.ps lfa-abi-kinds.r lfa-abi-reads.Post
 lfa-abi-pinned κs a z z′ ws ws′ p q = just p q
@@ -43,6 +45,9 @@ lfa-prepared-pinned κs a z z′ ws ws′ p q = just p q
 
 pub lfa-starts-pinned : OneOutcome 2 lfa-starts-kinds.ps lfa-starts-kinds.r lfa-starts-reads.Post
 lfa-starts-pinned κs a z z′ ws ws′ p q = just p q
+
+pub lfa-why-pinned : OneOutcome 2 lfa-why-kinds.ps lfa-why-kinds.r lfa-why-reads.Post
+lfa-why-pinned κs a z z′ ws ws′ p q = just p q
 
 pub lfa-step-pinned : {M : Type 1} (𝓤 : URA M) (H : Heap 𝓤) (A : Atoms 𝓤) (mem : Memory → SProp 𝓤) (run : Routine → Fun 𝓤) → OneWalked 𝓤 lfa-step.ended (lfa-step.clauses 𝓤 H A mem run)
 lfa-step-pinned 𝓤 H A mem run κs a g g′ z z′ ws ws′ P =

@@ -1,7 +1,7 @@
 // What a host links: C functions with the prefix lfa_. host/lfa.h says them in C.
 ghost use mathlib.Core.Path.{_≡_};
 ghost use lib.ListN.{length};
-ghost use Rattle.flat.specs.Calls.{abiOf, describedOf, descriptionOf, readIn, freshIn, stepOf, entriesOf, contextsOf, writtenOf, bufferOf, preparedIn, startedIn};
+ghost use Rattle.flat.specs.Calls.{abiOf, describedOf, descriptionOf, readIn, freshIn, stepOf, entriesOf, contextsOf, writtenOf, bufferOf, preparedIn, startedIn, whyIn};
 use codes::Call;
 use flat::FlatAbi;
 use flat::FlatAnswer;
@@ -12,7 +12,9 @@ use flat::FlatPrepared;
 use flat::FlatRead;
 use flat::FlatRecord;
 use flat::FlatStarted;
+use flat::FlatWhy;
 use flat::FlatWritten;
+use reason::Activate;
 
 // Which library this is: a host built for another compares this before all else.
 #[no_mangle]
@@ -88,4 +90,12 @@ pub extern "C" fn lfa_starts(board: &[u8], log: &[u8], place: usize, call: Call)
     ensures { λ r. ⌜ r ≡ startedIn (now (board .entry)) (now (log .entry)) place call ⌝ }
 {
     flat::starts(board, log, place, call)
+}
+
+// Why an ACTIVATE made at a place of a log gets its answer.
+#[no_mangle]
+pub extern "C" fn lfa_why(board: &[u8], log: &[u8], place: usize, a: Activate) -> FlatWhy
+    ensures { λ r. ⌜ r ≡ whyIn (now (board .entry)) (now (log .entry)) place a ⌝ }
+{
+    flat::why(board, log, place, a)
 }

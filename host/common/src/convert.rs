@@ -418,3 +418,69 @@ pub fn flat_started(started: Result<Option<u64>, Flaw>) -> flat::Started {
         },
     }
 }
+
+pub fn flat_activate(ask: &Activate) -> flat::Activate {
+    flat::Activate {
+        cpu: ask.cpu,
+        x1: ask.x1,
+        x2: ask.x2,
+        x3: ask.x3,
+        x4: ask.x4,
+    }
+}
+
+pub fn peer_activate(ask: &flat::Activate) -> Activate {
+    Activate {
+        cpu: ask.cpu,
+        x1: ask.x1,
+        x2: ask.x2,
+        x3: ask.x3,
+        x4: ask.x4,
+    }
+}
+
+/// The number of a reason, its component and the CPUs still missing; 0 and
+/// none where it has none.
+fn reason_numbers(reason: Reason) -> (u64, u64, CpuSet) {
+    let nobody = CpuSet::default();
+    match reason {
+        Reason::NothingPrepared => (1, 0, nobody),
+        Reason::Preparing(id) => (2, id, nobody),
+        Reason::HalfPrepared(id) => (3, id, nobody),
+        Reason::Dead => (4, 0, nobody),
+        Reason::OtherComponent(id) => (5, id, nobody),
+        Reason::OtherFlags => (6, 0, nobody),
+        Reason::NotOptional => (7, 0, nobody),
+        Reason::SkipWhileGathering => (8, 0, nobody),
+        Reason::NoSkip => (9, 0, nobody),
+        Reason::BadEntry => (10, 0, nobody),
+        Reason::Alone(id) => (11, id, nobody),
+        Reason::Skipped => (12, 0, nobody),
+        Reason::Held(missing) => (13, 0, missing),
+        Reason::AllPresent => (14, 0, nobody),
+    }
+}
+
+/// The number of a reason.
+pub fn reason_number(reason: Reason) -> u64 {
+    reason_numbers(reason).0
+}
+
+pub fn flat_why(why: Result<Reason, Flaw>) -> flat::Why {
+    match why {
+        Ok(reason) => {
+            let (reason, component, missing) = reason_numbers(reason);
+            flat::Why {
+                reason,
+                component,
+                missing: flat_cpus(missing),
+                ..flat::Why::default()
+            }
+        }
+        Err(flaw) => flat::Why {
+            refusal: flaw.refusal.number(),
+            place: flaw.place,
+            ..flat::Why::default()
+        },
+    }
+}

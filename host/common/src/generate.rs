@@ -293,6 +293,18 @@ pub fn any_call(dice: &mut Dice, record: &Record) -> Call {
     call
 }
 
+/// An ACTIVATE that mostly gets past the first rules.
+pub fn any_activate(dice: &mut Dice, record: &Record) -> Activate {
+    let flags = dice.one_of(&[0, 0, 0, 1, 1, 1, 2, 3]);
+    Activate {
+        cpu: cpu(dice, record),
+        x1: id(dice, record),
+        x2: whole_or_high(dice, flags),
+        x3: entry(dice, &record.board),
+        x4: dice.word(),
+    }
+}
+
 /// Gives a call the arguments of its function.
 fn set_arguments(dice: &mut Dice, record: &Record, call: &mut Call) {
     let Some(function) = Function::from_x0(call.x0) else {

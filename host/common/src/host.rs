@@ -6,10 +6,10 @@
 use crate::boards::{described, usual, OPTIONAL, PLAIN, SVN};
 use crate::convert::*;
 use crate::events::*;
-use crate::pair::{self, ask_prepared, ask_starts, read_board, same, write};
+use crate::pair::{self, ask_prepared, ask_starts, ask_why, read_board, same, write};
 use lfa::{
-    code, flat, Answer, Board, Call, Caller, Cpus, Event, Flaw, LogRecord, Prepared, Record,
-    Refusal, Registers, Release, RECORD_BYTES,
+    code, flat, Activate, Answer, Board, Call, Caller, Cpus, Event, Flaw, LogRecord, Prepared,
+    Reason, Record, Refusal, Registers, Release, RECORD_BYTES,
 };
 
 /// What the tables hold where nothing was written.
@@ -51,6 +51,13 @@ pub fn prepared_at(log: &[u8], place: usize) -> Result<Prepared, Flaw> {
 pub fn starts_at(board: &[u8], log: &[u8], place: usize, call: &Call) -> Result<Option<u64>, Flaw> {
     let _ = ask_starts(&"a log", board, log, place, &peer_call(call));
     lfa::starts_at(board, log, place, call)
+}
+
+/// Why an ACTIVATE made at a place of a log is refused, held or started, on
+/// both sides.
+pub fn why_at(board: &[u8], log: &[u8], place: usize, ask: &Activate) -> Result<Reason, Flaw> {
+    let _ = ask_why(&"a log", board, log, place, &peer_activate(ask));
+    lfa::why_at(board, log, place, ask)
 }
 
 /// Writes the log record of an event and its answer, on both sides.
@@ -172,6 +179,19 @@ impl Host {
     pub fn would_start(&self, cpu: u64, x: [u64; 5]) -> Option<u64> {
         let started = starts_at(&self.board, &self.log, self.records(), &from_cpu(cpu, x));
         started.expect("a log")
+    }
+
+    /// Why an ACTIVATE, by the log, is refused, held or started now; X0 is not
+    /// looked at.
+    pub fn why(&self, cpu: u64, [_, x1, x2, x3, x4]: [u64; 5]) -> Result<Reason, Flaw> {
+        let ask = Activate {
+            cpu,
+            x1,
+            x2,
+            x3,
+            x4,
+        };
+        why_at(&self.board, &self.log, self.records(), &ask)
     }
 
     /// CPU 0 switches another on.

@@ -264,10 +264,35 @@ pub fn log(
     bytes.first_chunk().copied()
 }
 
-/// Both questions at a place, on both sides.
+/// Every question at a place, on both sides; the call is taken for an ACTIVATE
+/// where the question is about one.
 pub fn ask(at: &impl Display, board: &[u8], log: &[u8], place: usize, call: &Call) {
     let _ = ask_prepared(at, log, place);
     let _ = ask_starts(at, board, log, place, call);
+    let _ = ask_why(at, board, log, place, &without_x0(call));
+}
+
+/// The call that an ACTIVATE is.
+pub fn with_x0(ask: &Activate) -> Call {
+    Call {
+        cpu: ask.cpu,
+        x0: Function::Activate.number(),
+        x1: ask.x1,
+        x2: ask.x2,
+        x3: ask.x3,
+        x4: ask.x4,
+    }
+}
+
+/// A call taken for an ACTIVATE.
+pub fn without_x0(call: &Call) -> Activate {
+    Activate {
+        cpu: call.cpu,
+        x1: call.x1,
+        x2: call.x2,
+        x3: call.x3,
+        x4: call.x4,
+    }
 }
 
 /// What is prepared at a place, on both sides.
@@ -302,6 +327,75 @@ pub fn ask_starts(
         &(place, call, flat_started(expected)),
     );
     expected
+}
+
+/// Why an ACTIVATE is refused, held or started, on both sides.
+pub fn ask_why(
+    at: &impl Display,
+    board: &[u8],
+    log: &[u8],
+    place: usize,
+    ask: &Activate,
+) -> Result<Reason, Flaw> {
+    let expected = why_at(board, log, place, ask);
+    same(
+        at,
+        "why",
+        &(place, ask, flat::why(board, log, place, flat_activate(ask))),
+        &(place, ask, flat_why(expected)),
+    );
+    expected
+}
+
+/// Where a log led to this record: why an ACTIVATE is refused, held or started
+/// is what the agent answers to it, and fits what the plain reader knows.
+pub fn check_why(
+    at: &impl Display,
+    record: &Record,
+    board: &[u8],
+    log: &[u8],
+    place: usize,
+    ask: &Activate,
+    why: Result<Reason, Flaw>,
+) {
+    let call = with_x0(ask);
+    let (mut entries, mut contexts) = ([0; MAX_CPUS], [0; MAX_CPUS]);
+    let mut after = record.clone();
+    let answer = after.step(&Event::Call(call), &mut entries, &mut contexts);
+    let caller = answer.map(|answer| answer.caller);
+    let refused = |refusal| Flaw { refusal, place: 0 };
+    let given = caller.map_err(refused);
+    same(at, "why and step", &why.map(named_by), &given);
+    let (board, reading) = reading_at(board, log, place).expect("a good log");
+    let all_present = why == Ok(Reason::AllPresent);
+    let starts = reading.starts(&board, &call).is_some();
+    same(at, "why and starts", &all_present, &starts);
+    if let Ok(Reason::Held(missing)) = why {
+        let (powered, held) = (reading.powered, reading.held());
+        let waits = |&cpu: &u64| powered.has(cpu) && !held.has(cpu) && cpu != ask.cpu;
+        let expected: CpuSet = (0..MAX_CPUS as u64).filter(waits).collect();
+        same(at, "why and powered", &missing, &expected);
+        assert!(!missing.is_empty(), "{at}: nobody is missing");
+    }
+}
+
+/// What a reason says becomes of the caller.
+fn named_by(reason: Reason) -> Caller {
+    let returned = |k| Caller::Returned([status(k), 0, 0, 0]);
+    match reason {
+        Reason::NothingPrepared | Reason::Preparing(_) | Reason::HalfPrepared(_) | Reason::Dead => {
+            returned(7)
+        }
+        Reason::OtherComponent(_)
+        | Reason::OtherFlags
+        | Reason::NotOptional
+        | Reason::SkipWhileGathering
+        | Reason::NoSkip => returned(8),
+        Reason::BadEntry => returned(10),
+        Reason::Alone(_) => returned(2),
+        Reason::Held(_) => Caller::Held,
+        Reason::Skipped | Reason::AllPresent => Caller::ActivationStarted,
+    }
 }
 
 /// A call to ask about, mostly the ACTIVATE of one component.

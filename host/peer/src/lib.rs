@@ -3,7 +3,8 @@
 //!
 //! [`Record::step`] takes one event. [`logged`] makes the log record of an
 //! accepted one. [`prepared_at`] and [`starts_at`] answer questions from a log
-//! alone.
+//! alone. [`why_at`] takes a log's events through the rules, and names the rule
+//! that an ACTIVATE meets there.
 //!
 //! # Open points
 //!
@@ -53,11 +54,32 @@
 //!   prepared component that the board does not have never starts. One that it
 //!   has need not be capable, since a log is taken at its word.
 //!
+//! Why an ACTIVATE is refused, held or started (request 1):
+//! - The refusals that no record is to blame for have place 0: the board's, 33
+//!   and the caller's.
+//! - A bad record anywhere, after the place too, comes before one that differs.
+//!   Of those that differ only the ones before the place count.
+//! - A record differs by its outcome or its word 6, since it has no more of an
+//!   answer. Whatever its event is refused with, 35 is given.
+//! - Resume tables are long enough for all events: a log does not say how long
+//!   the host's were.
+//! - The call is an ACTIVATE, whatever X0 would be.
+//! - The refusals of the caller come before every rule, also before the -7 of a
+//!   row. In together no other answer can come.
+//! - [`Reason::OtherComponent`] has the state's component, whatever X1 is, even
+//!   a number that is no component.
+//! - A flag above bit 0 is named before skip, even where bit 0 is set too.
+//! - In alone, no skip (-8) is named before the running activation (-2).
+//! - Idle and dead are reasons by themselves, whatever is pending and whatever
+//!   led there.
+//!
 //! Of logs that no agent writes, three points follow the project's own choices
 //! (docs/DECISIONS.md), so that on them the comparison with the library is no
 //! independent evidence: what becomes of a caller goes by the outcome alone;
 //! CPU_ON powers any CPU, also one that the board has not; and skip is bit 0 of
-//! X2 of an outcome 4, whatever the function.
+//! X2 of an outcome 4, whatever the function. Nor is it on two points of
+//! [`why_at`] that were given beforehand: place 0 where no record is to blame,
+//! and the component of [`Reason::OtherComponent`].
 
 mod answer;
 mod board;
@@ -68,6 +90,7 @@ mod reader;
 mod record;
 mod refusal;
 mod step;
+mod why;
 
 pub use answer::{status, Answer, Caller, Release};
 pub use board::{Board, Component, MAX_COMPONENTS, MAX_CPUS};
@@ -80,3 +103,4 @@ pub use log::{
 pub use reader::{held_at, powered_at, reading_at, starts_at, Reading};
 pub use record::{Record, State};
 pub use refusal::Refusal;
+pub use why::{why_at, Activate, Reason};

@@ -49,6 +49,8 @@ pub enum Refusal {
     BadLength = 33,
     /// No room for the 51 bytes of a log record.
     NoRoomForRecord = 34,
+    /// The event of a log record is refused by the rules, or answered otherwise.
+    Differs = 35,
 }
 
 impl Refusal {

@@ -58,15 +58,7 @@ impl Record {
         entries: &mut [u64],
         contexts: &mut [u64],
     ) -> Result<Answer, Refusal> {
-        if call.cpu >= self.board.cpus {
-            return Err(Refusal::NoSuchCpu);
-        }
-        if !self.on.has(call.cpu) {
-            return Err(Refusal::CpuOff);
-        }
-        if self.held.has(call.cpu) {
-            return Err(Refusal::CpuHeld);
-        }
+        self.admits(call.cpu)?;
         let Some(function) = Function::from_x0(call.x0) else {
             return Ok(Answer::returned(NOT_SUPPORTED));
         };
@@ -81,6 +73,19 @@ impl Record {
             Function::CpuOff => self.cpu_off(call.cpu),
             Function::CpuOn => self.cpu_on(call, entries, contexts),
         })
+    }
+
+    /// Refuses a caller that there is not, that is off or that is held.
+    pub(crate) fn admits(&self, cpu: u64) -> Result<(), Refusal> {
+        if cpu >= self.board.cpus {
+            Err(Refusal::NoSuchCpu)
+        } else if !self.on.has(cpu) {
+            Err(Refusal::CpuOff)
+        } else if self.held.has(cpu) {
+            Err(Refusal::CpuHeld)
+        } else {
+            Ok(())
+        }
     }
 
     fn get_info(&mut self, selector: u64) -> Answer {

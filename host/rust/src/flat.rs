@@ -298,8 +298,43 @@ pub struct Started {
     pub started: Found,
 }
 
+/// An ACTIVATE: the CPU that makes it, and its registers but for X0.
+#[repr(C)]
+#[derive(Clone, Copy, Debug, Default, PartialEq, Eq)]
+pub struct Activate {
+    /// The CPU.
+    pub cpu: u64,
+    /// X1, the component.
+    pub x1: u64,
+    /// X2, the flags: bit 0 skips the rendezvous.
+    pub x2: u64,
+    /// X3, the entry.
+    pub x3: u64,
+    /// X4, the context id.
+    pub x4: u64,
+}
+
+/// The answer of [`why`].
+#[repr(C)]
+#[derive(Clone, Copy, Debug, Default, PartialEq, Eq)]
+pub struct Why {
+    /// 0 or the number of the refusal.
+    pub refusal: u64,
+    /// If refused, the place of the record to blame, or 0 where it is the log, the board or the call.
+    pub place: usize,
+    /// 0 if refused, else the place in [`Reason`](crate::Reason), from 1 on; a new reason takes the next.
+    pub reason: u64,
+    /// The component that the reason has, else 0.
+    pub component: u64,
+    /// The powered CPUs still missing where the caller is held, else none.
+    pub missing: Cpus,
+}
+
 mod linked {
-    use super::{Abi, Answer, Board, Call, Event, Fresh, Prepared, Read, Record, Started, Written};
+    use super::{
+        Abi, Activate, Answer, Board, Call, Event, Fresh, Prepared, Read, Record, Started, Why,
+        Written,
+    };
 
     // The library's convention, also where C has another.
     extern "sysv64" {
@@ -325,6 +360,14 @@ mod linked {
             place: usize,
             call: Call,
         ) -> Started;
+        pub fn lfa_why(
+            board: *const u8,
+            board_length: usize,
+            log: *const u8,
+            log_length: usize,
+            place: usize,
+            a: Activate,
+        ) -> Why;
     }
 }
 
@@ -411,6 +454,25 @@ pub fn starts(board: &[u8], log: &[u8], place: usize, call: Call) -> Started {
             log.len(),
             place,
             call,
+        )
+    }
+}
+
+/// Why an ACTIVATE made at a place of a log is refused, held or started.
+///
+/// Refused with the board's number, then 33, then that of the first bad record, then 35 for the first record before the place
+/// whose event the rules refuse or answer otherwise, then 2, 3, 4 for the caller.
+pub fn why(board: &[u8], log: &[u8], place: usize, a: Activate) -> Why {
+    ensure_own_library();
+    // SAFETY: both slices are valid for their lengths, and the function only reads them.
+    unsafe {
+        linked::lfa_why(
+            board.as_ptr(),
+            board.len(),
+            log.as_ptr(),
+            log.len(),
+            place,
+            a,
         )
     }
 }

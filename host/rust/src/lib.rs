@@ -3,11 +3,11 @@
 //! A host keeps a [`Record`] of its board, whose description it has packed or writes from its parts ([`describe`]), and tells it
 //! every [`Event`]: a call from a CPU, the end of a job, an image that arrived. The [`Answer`] says what becomes of the caller
 //! and who else goes on. Each accepted event can be logged ([`write_log`]) and read back ([`read_record`]), and the log alone
-//! tells what is prepared ([`prepared_at`]) and whether a call starts a rendezvous activation ([`starts_at`]). A [`Refusal`]
-//! changes nothing.
+//! tells what is prepared ([`prepared_at`]), whether a call starts a rendezvous activation ([`starts_at`]), and why an ACTIVATE
+//! is refused, held or started ([`why_at`]). A [`Refusal`] changes nothing.
 //!
 //! No board, event or log makes a function here panic. A linked library that this wrapper is not for does: one that says so,
-//! before anything crosses to it, and one whose answer or state has a number that this wrapper does not know.
+//! before anything crosses to it, and one whose answer, state or reason has a number that this wrapper does not know.
 //!
 //! Of what the library asks of a host (`lfa.h`), the types see to pointers, lengths and one call at a time for a record. The
 //! rest is for the host: a stack as deep as `LFA_STACK_` says and on which no interrupt is taken, since the red zone is in use,
@@ -50,6 +50,7 @@ pub mod flat;
 mod log;
 mod record;
 mod refusal;
+mod why;
 
 pub use answer::{status, Answer, Caller, Registers, Release};
 pub use event::{code, function, Call, Event, Image, Report};
@@ -59,3 +60,4 @@ pub use log::{
 };
 pub use record::{describe, Record, State};
 pub use refusal::Refusal;
+pub use why::{why_at, Activate, Reason};

@@ -18,13 +18,13 @@ pub const MOST_RECORDS: usize = 1024;
 pub struct Flaw {
     /// The refusal.
     pub refusal: Refusal,
-    /// The place of the record to blame, counted from 0; 0 where it is the log or the board.
+    /// The place of the record to blame, counted from 0; 0 where it is the log, the board or the call.
     pub place: usize,
 }
 
 impl Flaw {
     /// What the library says by a number: 0 is no refusal.
-    fn check(number: u64, place: usize) -> Result<(), Flaw> {
+    pub(crate) fn check(number: u64, place: usize) -> Result<(), Flaw> {
         Refusal::check(number).map_err(|refusal| Flaw { refusal, place })
     }
 }

@@ -52,6 +52,8 @@ impl Refusal {
     pub const LOG: Refusal = Refusal(33);
     /// No room for 51 bytes.
     pub const NO_ROOM: Refusal = Refusal(34);
+    /// Log: the rules refuse a record's event, or answer it otherwise.
+    pub const DEPARTS: Refusal = Refusal(35);
 
     /// Its number.
     pub fn number(self) -> u64 {
@@ -91,6 +93,7 @@ impl Refusal {
             Refusal::UNKNOWN => "kind, outcome or code unknown",
             Refusal::LOG => "log: part of a record, over 1,024 of them, or a place past the end",
             Refusal::NO_ROOM => "no room for 51 bytes",
+            Refusal::DEPARTS => "log: the rules refuse a record's event, or answer it otherwise",
             _ => "unknown refusal",
         }
     }

@@ -2,7 +2,9 @@
 
 use std::panic::{catch_unwind, AssertUnwindSafe};
 
-use lfa::flat::{self, Abi, Answer, Board, Call, Cpus, Event, Record, MOST_COMPONENTS, MOST_CPUS};
+use lfa::flat::{
+    self, Abi, Activate, Answer, Board, Call, Cpus, Event, Record, MOST_COMPONENTS, MOST_CPUS,
+};
 
 /// A record of zeros.
 fn zeros() -> Record {
@@ -42,6 +44,7 @@ fn no_function_of_another_library_is_called() {
         is_refused(|| flat::read_record(&[])),
         is_refused(|| flat::prepared(&[], 0)),
         is_refused(|| flat::starts(&[], &[], 0, Call::default())),
+        is_refused(|| flat::why(&[], &[], 0, Activate::default())),
     ];
-    assert_eq!(refused, [true; 7]);
+    assert_eq!(refused, [true; 8]);
 }

@@ -56,19 +56,19 @@ told-requires c κs = search needs
 
 add-k : tie.Need-add-k Inv-loop μ-loop
 add-k c =
-    let a = c .before .before .before .before .before .before .before .before .before .before .before .before .before in
+    let a = c .before .before .before .before .before .before .before .before .before .before .before .before .before .before in
     let few = checked-sound (a .args .log .now) 0 (a .args .n) (a .pre .1) .few in
-    omega (arith, c .before .before .before .before .before .loop-test .taken)
+    omega (arith, c .before .before .before .before .before .before .loop-test .taken)
 
 loop-less : tie.Need-loop-less Inv-loop μ-loop
 loop-less c = omega arith
 
 loop-again : tie.Need-loop-again Inv-loop μ-loop
 loop-again c =
-    let t = c .before .before .before in
+    let t = c .before .before .before .before in
     let l = t .before .before .before in
     let told = rw (l .loop .inv .1 .1, t .before .said-at .ensures) at (c .told .ensures) in
-    (omega arith, (ap (λ (x : Turn). x .rec) (turn t) ∙ replayed-on _ _ _, told ∙ story-on _ _))
+    (omega arith, (ap (λ (x : Turn). x .agent .rec) (turn t) ∙ replayed-on _ _ _, told ∙ story-on _ _))
 
 returns : tie.Need-returns Inv-loop μ-loop
 returns c = tt

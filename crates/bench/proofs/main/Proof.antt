@@ -1,4 +1,4 @@
--- To show is that both files lie in their buffers: `files::read` promises it of the length that it gives.
+-- To show is that both files lie in their buffers: `read_file` promises it of the length that it gives.
 use borrow.Author.Needs.{needs}
 use Rattle.bench.proofs.main.Statement.{statement}
 use Rattle.bench.proofs.main.Tie as tie
@@ -15,11 +15,11 @@ failure-requires c κs = search needs
 returns : tie.Need-returns
 returns c = search needs
 
-slice-aggregate-read : tie.Need-slice-aggregate-read
-slice-aggregate-read c = search needs
+slice-aggregate-read-file : tie.Need-slice-aggregate-read-file
+slice-aggregate-read-file c = search needs
 
-read-requires : tie.Need-read-requires
-read-requires c κs = search needs
+read-file-requires : tie.Need-read-file-requires
+read-file-requires c κs = search needs
 
 enum-told : tie.Need-enum-told
 enum-told c = search needs
@@ -30,11 +30,11 @@ returns-2 c = search needs
 enum-known-m : tie.Need-enum-known-m
 enum-known-m c = search needs
 
-slice-aggregate-read-2 : tie.Need-slice-aggregate-read-2
-slice-aggregate-read-2 c = search needs
+slice-aggregate-read-file-2 : tie.Need-slice-aggregate-read-file-2
+slice-aggregate-read-file-2 c = search needs
 
-read-requires-2 : tie.Need-read-requires-2
-read-requires-2 c κs = search needs
+read-file-requires-2 : tie.Need-read-file-requires-2
+read-file-requires-2 c κs = search needs
 
 enum-told-2 : tie.Need-enum-told-2
 enum-told-2 c = search needs
@@ -48,22 +48,22 @@ enum-known-n c = search needs
 array-share-prefix-board : tie.Need-array-share-prefix-board
 array-share-prefix-board c =
     let m = c .before .before .before .before .before .before .before in
-    rw (m .m .given .1) at (m .before .before .before .read .ensures) .0
+    rw (m .m .given .1) at (m .before .before .before .read-file .ensures) .0
 
 slice-aggregate-bench : tie.Need-slice-aggregate-bench
 slice-aggregate-bench c =
     let m = c .before .before .before .before .before .before .before .before in
-    rw (m .m .given .1) at (m .before .before .before .read .ensures) .1
+    rw (m .m .given .1) at (m .before .before .before .read-file .ensures) .1
 
 array-share-prefix-log : tie.Need-array-share-prefix-log
 array-share-prefix-log c =
     let n = c .before .before in
-    rw (n .n .given .1) at (n .before .before .before .read2 .ensures) .0
+    rw (n .n .given .1) at (n .before .before .before .read-file2 .ensures) .0
 
 slice-aggregate-bench-2 : tie.Need-slice-aggregate-bench-2
 slice-aggregate-bench-2 c =
     let n = c .before .before .before in
-    rw (n .n .given .1) at (n .before .before .before .read2 .ensures) .1
+    rw (n .n .given .1) at (n .before .before .before .read-file2 .ensures) .1
 
 bench-requires : tie.Need-bench-requires
 bench-requires c κs = search needs
@@ -79,13 +79,13 @@ main-spec =
     slice-aggregate-failure
     failure-requires
     returns
-    slice-aggregate-read
-    read-requires
+    slice-aggregate-read-file
+    read-file-requires
     enum-told
     returns-2
     enum-known-m
-    slice-aggregate-read-2
-    read-requires-2
+    slice-aggregate-read-file-2
+    read-file-requires-2
     enum-told-2
     returns-3
     enum-known-n

@@ -16,7 +16,7 @@ fn compare(dice: &mut Dice, bytes: &[u8]) -> u64 {
 }
 
 /// Breaks a description in one way or another.
-fn damage(dice: &mut Dice, bytes: &mut Vec<u8>) {
+pub fn damage(dice: &mut Dice, bytes: &mut Vec<u8>) {
     let length = bytes.len();
     match dice.below(12) {
         0 => bytes.truncate(dice.place(length)),

@@ -7,7 +7,9 @@ use common::boards::{any, described};
 use common::convert::*;
 use common::dice::Dice;
 use common::generate::{entry, id, junk_event, noise, ACTIVATE_CODES, FUNCTIONS, PRIME_CODES};
-use common::pair::{ask, ask_prepared, ask_starts, flat_form, log, question, read_record};
+use common::pair::{
+    ask, ask_prepared, ask_starts, ask_why, flat_form, log, question, read_record, without_x0,
+};
 use lfa::flat;
 use peer::*;
 use std::collections::BTreeMap;
@@ -27,7 +29,7 @@ fn walk(dice: &mut Dice, records: usize) -> Walk {
 }
 
 /// A walk whose log has exactly so many records.
-fn full_walk(dice: &mut Dice, records: usize) -> Walk {
+pub fn full_walk(dice: &mut Dice, records: usize) -> Walk {
     loop {
         let walk = walk(dice, records);
         if walk.records() == records {
@@ -72,7 +74,7 @@ fn logs_of_walks() {
 }
 
 /// Breaks a log in one way or another.
-fn damage(dice: &mut Dice, log: &mut Vec<u8>) {
+pub fn damage(dice: &mut Dice, log: &mut Vec<u8>) {
     let length = log.len();
     let records = length / RECORD_BYTES;
     if records == 0 {
@@ -269,6 +271,7 @@ fn logs_that_no_agent_writes() {
     let mut dice = Dice::new(15);
     let mut started = 0;
     let mut stopped = 0;
+    let mut whys = BTreeMap::<u64, u64>::new();
     for _ in 0..2000 {
         let mut board = any(&mut dice);
         if !dice.one_in(8) {
@@ -290,6 +293,9 @@ fn logs_that_no_agent_writes() {
             call.x1 = prepared.component.unwrap_or(call.x1);
             let read = ask_starts(&dice, &described, &log, place, &call);
             started += u64::from(read.expect("a good log").is_some());
+            let why = ask_why(&dice, &described, &log, place, &without_x0(&call));
+            let refusal = refusal_of(&why.map_err(|flaw| flaw.refusal));
+            *whys.entry(refusal).or_default() += 1;
             let (board, mut reading) = reading_at(&described, &log, place).expect("a good log");
             if std::mem::take(&mut reading.powered_beyond) {
                 stopped += u64::from(reading.starts(&board, &call).is_some());
@@ -298,7 +304,10 @@ fn logs_that_no_agent_writes() {
     }
     println!("started in logs that no agent writes: {started}");
     println!("not started because of a CPU that no set has: {stopped}");
+    println!("refusals of whys in logs that no agent writes: {whys:?}");
     assert!(started > 500 && stopped > 5, "{dice}: {started} {stopped}");
+    let often = |refusal| whys.get(&refusal) > Some(&500);
+    assert!(often(0) && often(35), "{dice}: {whys:?}");
 }
 
 /// The bits of a record, and those of its word 6.

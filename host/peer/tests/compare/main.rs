@@ -9,5 +9,7 @@ mod clauses;
 mod damage;
 mod logs;
 mod places;
+mod story;
 mod tally;
 mod walks;
+mod why;

@@ -71,7 +71,8 @@ pub struct Tally {
     reads: BTreeMap<bool, u64>,
 }
 
-fn add<K: Ord>(counts: &mut BTreeMap<K, u64>, key: K) {
+/// Counts one more of these.
+pub fn add<K: Ord>(counts: &mut BTreeMap<K, u64>, key: K) {
     *counts.entry(key).or_default() += 1;
 }
 
@@ -176,7 +177,7 @@ impl Tally {
 }
 
 /// Fails unless exactly these were counted.
-fn exactly<K: Ord + Copy + Debug>(
+pub fn exactly<K: Ord + Copy + Debug>(
     what: &str,
     counts: &BTreeMap<K, u64>,
     expected: impl IntoIterator<Item = K>,

@@ -6,8 +6,8 @@ use common::convert::*;
 use common::dice::{from_env, Dice};
 use common::generate::{self, junk_event, Mood};
 use common::pair::{
-    ask_prepared, ask_starts, log, prepared_in, question, refused_step, same, started_by, Pair,
-    Tables,
+    ask_prepared, ask_starts, ask_why, check_why, log, prepared_in, question, refused_step, same,
+    started_by, without_x0, Pair, Tables,
 };
 use lfa::flat;
 use peer::*;
@@ -104,7 +104,13 @@ impl Walk {
         if dice.below(self.records() as u64 + 2) >= share {
             return None;
         }
-        let read = ask_starts(dice, &self.board, &self.log, self.records(), call);
+        let (board, log, place) = (&self.board, &self.log, self.records());
+        if Function::from_x0(call.x0) == Some(Function::Activate) {
+            let ask = without_x0(call);
+            let why = ask_why(dice, board, log, place, &ask);
+            check_why(dice, peer, board, log, place, &ask, why);
+        }
+        let read = ask_starts(dice, board, log, place, call);
         Some(read.expect("a good log"))
     }
 

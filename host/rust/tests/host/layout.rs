@@ -3,8 +3,8 @@
 use core::mem::{align_of, offset_of, size_of};
 
 use lfa::flat::{
-    self, Abi, Answer, Board, Call, Component, Cpus, Event, Found, Freed, Fresh, Image, LogRecord,
-    Prepared, Read, Record, Registers, Report, Started, Written,
+    self, Abi, Activate, Answer, Board, Call, Component, Cpus, Event, Found, Freed, Fresh, Image,
+    LogRecord, Prepared, Read, Record, Registers, Report, Started, Why, Written,
 };
 
 #[test]
@@ -65,6 +65,8 @@ fn sizes() {
     assert_eq!(size_of::<Found>(), 16);
     assert_eq!(size_of::<Prepared>(), 40);
     assert_eq!(size_of::<Started>(), 32);
+    assert_eq!(size_of::<Activate>(), 40);
+    assert_eq!(size_of::<Why>(), 40);
     assert_eq!(size_of::<Abi>(), 32);
     assert_eq!(size_of::<LogRecord>(), 80);
     assert_eq!(size_of::<Read>(), 96);
@@ -111,6 +113,11 @@ fn places_in_events() {
     assert_eq!(offset_of!(Event, call), 8);
     assert_eq!(offset_of!(Event, report), 56);
     assert_eq!(offset_of!(Event, image), 72);
+    assert_eq!(offset_of!(Activate, cpu), 0);
+    assert_eq!(offset_of!(Activate, x1), 8);
+    assert_eq!(offset_of!(Activate, x2), 16);
+    assert_eq!(offset_of!(Activate, x3), 24);
+    assert_eq!(offset_of!(Activate, x4), 32);
 }
 
 #[test]
@@ -130,6 +137,11 @@ fn places_in_answers() {
     assert_eq!(offset_of!(Prepared, looked), 32);
     assert_eq!(offset_of!(Started, place), 8);
     assert_eq!(offset_of!(Started, started), 16);
+    assert_eq!(offset_of!(Why, refusal), 0);
+    assert_eq!(offset_of!(Why, place), 8);
+    assert_eq!(offset_of!(Why, reason), 16);
+    assert_eq!(offset_of!(Why, component), 24);
+    assert_eq!(offset_of!(Why, missing), 32);
     assert_eq!(offset_of!(Read, bytes), 8);
     assert_eq!(offset_of!(Read, record), 16);
     assert_eq!(offset_of!(LogRecord, outcome), 24);

@@ -2,10 +2,10 @@
 
 use common::boards::{described, usual, OPTIONAL, PLAIN, RESETS};
 use common::events::*;
-use common::host::{prepared_at, read_record, starts_at, write_log, Host};
+use common::host::{prepared_at, read_record, starts_at, why_at, write_log, Host};
 use lfa::{
-    code, flat, function, Answer, Call, Caller, Event, Flaw, Freed, LogRecord, Refusal, Registers,
-    Release, Report, RECORD_BYTES,
+    code, flat, function, Activate, Answer, Call, Caller, Event, Flaw, Freed, LogRecord, Reason,
+    Refusal, Registers, Release, Report, RECORD_BYTES,
 };
 
 const NOTHING: Answer = Answer {
@@ -107,12 +107,14 @@ fn log() -> Vec<u8> {
     host.log
 }
 
-/// Both questions refuse the log with this number and place.
+/// Every question refuses the log with this number and place.
 fn refused(log: &[u8], place: usize, number: u64, at: usize) {
     let flaw = prepared_at(log, place).expect_err("refused");
     assert_eq!((flaw.refusal.number(), flaw.place), (number, at));
     let started = starts_at(&board(), log, place, &Call::default());
     assert_eq!(started, Err(flaw));
+    let why = why_at(&board(), log, place, &Activate::default());
+    assert_eq!(why, Err(flaw));
 }
 
 /// Since 33 comes first, no log here is refused with 30.
@@ -186,10 +188,12 @@ fn an_empty_log_has_nothing_prepared() {
     let found = prepared_at(&[], 0).expect("a log");
     assert_eq!((found.component, found.looked), (None, 0));
     assert_eq!(starts_at(&board(), &[], 0, &Call::default()), Ok(None));
+    let why = why_at(&board(), &[], 0, &Activate::default());
+    assert_eq!(why, Ok(Reason::NothingPrepared));
 }
 
 #[test]
-fn starts_gives_the_boards_refusal_first() {
+fn the_boards_refusal_comes_first() {
     let mut board = board();
     board.push(0);
     let flaw = Flaw {
@@ -199,6 +203,9 @@ fn starts_gives_the_boards_refusal_first() {
     let call = Call::default();
     assert_eq!(starts_at(&board, &[0; 51], 1, &call), Err(flaw));
     assert_eq!(starts_at(&board, &[0; 50], 9, &call), Err(flaw));
+    let ask = Activate::default();
+    assert_eq!(why_at(&board, &[0; 51], 1, &ask), Err(flaw));
+    assert_eq!(why_at(&board, &[0; 50], 9, &ask), Err(flaw));
 }
 
 #[test]

@@ -9,4 +9,5 @@ mod logs;
 mod refusals;
 mod rules;
 mod update;
+mod why;
 mod wrapper;

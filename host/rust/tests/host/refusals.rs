@@ -44,6 +44,8 @@ fn numbers_are_document_01s() {
         Refusal::NO_ROOM,
     ];
     assert!(logs.iter().map(|r| r.number()).eq(30..=34));
+    // Document 02's.
+    assert_eq!(Refusal::DEPARTS.number(), 35);
 }
 
 #[test]

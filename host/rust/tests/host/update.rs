@@ -1,10 +1,11 @@
-//! The update of two CPUs, with its log and the two questions.
+//! The update of two CPUs, with its log and the questions.
 
 use common::boards::{usual, FIRST};
 use common::events::*;
-use common::host::{prepared_at, returned, starts_at, Host};
+use common::host::{prepared_at, returned, starts_at, why_at, Host};
 use lfa::{
-    function, status, Call, Caller, Cpus, Event, Freed, Refusal, Release, State, RECORD_BYTES,
+    function, status, Activate, Call, Caller, Cpus, Event, Flaw, Freed, Reason, Refusal, Release,
+    State, RECORD_BYTES,
 };
 
 const UPDATED: u64 = 1;
@@ -106,6 +107,37 @@ fn the_log_says_what_starts() {
     assert_eq!(starts(5, last), Ok(Some(UPDATED)));
     for place in [0, 1, 2, 3, 4, 6, 7] {
         assert_eq!(starts(place, last), Ok(None), "place {place}");
+    }
+}
+
+#[test]
+fn the_log_says_why() {
+    let host = updated();
+    let why = |place, cpu| {
+        let ask = Activate {
+            cpu,
+            x1: UPDATED,
+            x3: FIRST,
+            ..Activate::default()
+        };
+        why_at(&host.board, &host.log, place, &ask)
+    };
+    let refused = |refusal| Err(Flaw { refusal, place: 0 });
+    let waits_for = |cpu| Ok(Reason::Held(Cpus::of(&[cpu])));
+    let (idle, held) = (Ok(Reason::NothingPrepared), refused(Refusal::CPU_HELD));
+    let first = [idle, idle, idle, held, waits_for(1), held, held, idle];
+    let second = [
+        refused(Refusal::CPU_OFF),
+        idle,
+        idle,
+        Ok(Reason::Preparing(UPDATED)),
+        waits_for(0),
+        Ok(Reason::AllPresent),
+        held,
+        idle,
+    ];
+    for (place, both) in first.into_iter().zip(second).enumerate() {
+        assert_eq!((why(place, 0), why(place, 1)), both, "place {place}");
     }
 }
 

@@ -4,8 +4,8 @@ use std::error::Error;
 
 use common::events::{activate_report, call, image, prime_report};
 use lfa::{
-    flat, prepared_at, Answer, Caller, Cpus, Event, Freed, Record, Refusal, Registers, Release,
-    State,
+    flat, prepared_at, Answer, Caller, Cpus, Event, Flaw, Freed, Reason, Record, Refusal,
+    Registers, Release, State,
 };
 
 #[test]
@@ -96,6 +96,66 @@ fn another_number_is_no_release() {
 }
 
 #[test]
+fn reasons_from_numbers() {
+    let missing = Cpus::of(&[1, 63]);
+    let reasons = [
+        Reason::NothingPrepared,
+        Reason::Preparing(7),
+        Reason::HalfPrepared(7),
+        Reason::Dead,
+        Reason::OtherComponent(7),
+        Reason::OtherFlags,
+        Reason::NotOptional,
+        Reason::SkipWhileGathering,
+        Reason::NoSkip,
+        Reason::BadEntry,
+        Reason::Alone(7),
+        Reason::Skipped,
+        Reason::Held(missing),
+        Reason::AllPresent,
+    ];
+    for (number, reason) in (1..).zip(reasons) {
+        let why = flat::Why {
+            reason: number,
+            component: 7,
+            missing,
+            ..flat::Why::default()
+        };
+        assert_eq!(Reason::from_flat(why), Ok(reason));
+    }
+}
+
+#[test]
+fn a_refusal_comes_before_a_reason() {
+    let why = flat::Why {
+        refusal: 35,
+        place: 3,
+        reason: 99,
+        ..flat::Why::default()
+    };
+    let flaw = Flaw {
+        refusal: Refusal::DEPARTS,
+        place: 3,
+    };
+    assert_eq!(Reason::from_flat(why), Err(flaw));
+}
+
+#[test]
+#[should_panic(expected = "no reason has the number 15")]
+fn another_number_is_no_reason() {
+    let _ = Reason::from_flat(flat::Why {
+        reason: 15,
+        ..flat::Why::default()
+    });
+}
+
+#[test]
+#[should_panic(expected = "no reason has the number 0")]
+fn no_number_is_no_reason() {
+    let _ = Reason::from_flat(flat::Why::default());
+}
+
+#[test]
 fn sets_of_cpus() {
     let set = Cpus::of(&[0, 5, 63, 64, u64::MAX]);
     assert!(set.iter().eq([0, 5, 63]));
@@ -124,4 +184,8 @@ fn refusals_say_what_was_refused() {
     let refusal = Answer::from_flat(unheard_of).expect_err("refused");
     assert_eq!(refusal.to_string(), "refused 1000: unknown refusal");
     assert_eq!(Refusal::LOG.number(), 33);
+    assert_eq!(
+        Refusal::DEPARTS.to_string(),
+        "refused 35: log: the rules refuse a record's event, or answer it otherwise"
+    );
 }

@@ -1,0 +1,26 @@
+use native.Mathlib.Omega.{arith}
+use borrow.Author.Needs.{needs}
+use Rattle.io.proofs.Counting.{counts}
+use Rattle.given.proofs.files.name.Statement.{statement}
+use Rattle.given.proofs.files.name.Tie as tie
+
+arg-requires : tie.Need-arg-requires
+arg-requires c κs = search needs
+
+errno-requires : tie.Need-errno-requires
+errno-requires c κs = search needs
+
+same-length : tie.Need-same-length
+same-length c = search needs
+
+returns : tie.Need-returns
+returns c = counts _ _ (omega arith)
+
+same-length-2 : tie.Need-same-length-2
+same-length-2 c = search needs
+
+returns-2 : tie.Need-returns-2
+returns-2 c = search needs
+
+pub name-spec : {M : Type 1} → statement M
+name-spec = tie.close (tie.spec arg-requires errno-requires same-length returns same-length-2 returns-2)

@@ -1,0 +1,4 @@
+pub mod Answered
+pub mod Numbers
+pub mod Shown
+pub mod Pinned

@@ -1,0 +1,4 @@
+pub mod Reason
+pub mod Explained
+pub mod Numbers
+pub mod Shown
