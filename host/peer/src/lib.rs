@@ -78,8 +78,8 @@
 //! independent evidence: what becomes of a caller goes by the outcome alone;
 //! CPU_ON powers any CPU, also one that the board has not; and skip is bit 0 of
 //! X2 of an outcome 4, whatever the function. Nor is it on two points of
-//! [`why_at`] that were given beforehand: place 0 where no record is to blame,
-//! and the component of [`Reason::OtherComponent`].
+//! [`why_at`] that follow these choices too: place 0 where no record is to
+//! blame, and the component of [`Reason::OtherComponent`].
 
 mod answer;
 mod board;
