@@ -62,9 +62,10 @@ extern "C" {
 
 /*
  * The number of this boundary: it rises with every change of a layout or of what a number means, so with a new kind, state,
- * caller's part, release or code as well. lfa_abi gives the library's.
+ * caller's part, release, code or reason as well, and where a function takes more stack than LFA_STACK_ said. lfa_abi gives the
+ * library's. From 1 to 2 the record is the same: one that was stored under 1 is good under 2.
  */
-#define LFA_ABI 1
+#define LFA_ABI 2
 
 /* The library's calling convention, where the compiler has others and can be told. */
 #if defined(__GNUC__) && defined(__x86_64__)

@@ -21,7 +21,7 @@ use rules::Report;
 use trace::Read;
 
 // The ABI number, which rises with every change of a layout or of what a number means, and the bytes of the structs.
-const ABI: u64 = 1;
+const ABI: u64 = 2;
 
 const RECORD_SIZE: u64 = 2024;
 

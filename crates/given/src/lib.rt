@@ -50,7 +50,7 @@ pub fn read_file(i: usize, buf: &mut [u8]) -> File
 }
 
 // The number that a word says: in hex digits after `0x`, else in decimal ones.
-pub fn number_in(word: &[u8]) -> Numeral
+fn number_in(word: &[u8]) -> Numeral
     ensures { λ r. ⌜ r ≡ numeralOf (now (word .entry)) ⌝ }
 {
     if digits::is_hex(word) {
@@ -60,7 +60,7 @@ pub fn number_in(word: &[u8]) -> Numeral
     }
 }
 
-// The same; says so, with the word, where it is none.
+// The number that a word says; says so, with the word, where it is none.
 pub fn read_number(word: &[u8]) -> Numeral
     ensures { λ r. ⌜ r ≡ numeralOf (now (word .entry)) ⌝ }
 {

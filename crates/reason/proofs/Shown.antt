@@ -270,10 +270,13 @@ module _ (description : List ℕ) (b : Board) (reads : readOf description ≡ ac
       let same-held : own .held ≡ held = let e = sym (d .held es more typed few) ∙ q in cc in
       held-set own a s (own-given (Held s) h .reason) ∙ rw (same-on, same-held)
 
-  pub own-shown : Own description b es more a
-  own-shown = record {
-    explained = own-explained;
-    missing = own-missing;
-    present = (own-present, λ q. own-started (a .x1) q .0);
-    starts = λ c q. own-started c q .1;
-  }
+pub own-shown : (description : List ℕ) (b : Board) → readOf description ≡ accepted b → Own description b
+own-shown description b reads = record {
+  explained = λ es more o a. own-explained description b reads es more a (o .typed) (o .few);
+  missing = λ es more o a. own-missing description b reads es more a (o .typed) (o .few);
+  present = λ es more o a. (
+    own-present description b reads es more a (o .typed) (o .few),
+    λ q. own-started description b reads es more a (o .typed) (o .few) (a .x1) q .0,
+  );
+  starts = λ es more o a c q. own-started description b reads es more a (o .typed) (o .few) c q .1;
+}

@@ -3,17 +3,17 @@
 use Prim.Native.Nat.{ℕ}
 use mathlib.Core.Bool.{true, not, _&&_}
 use mathlib.Core.List.{List, [], _∷_, _++_}
-use lib.Dec.{eqb, ltb}
+use lib.Dec.{eqb}
 use Rattle.basics.specs.First.{RowOf, firstIn}
 use Rattle.codes.specs.Numbers.{activateNumber}
 use Rattle.codes.specs.declared.Call.{Call}
-use Rattle.cpuset.specs.Set.{withOf, withoutOf, lessOf, sameOf}
+use Rattle.cpuset.specs.Set.{withoutOf, lessOf}
 use Rattle.cpuset.specs.declared.CpuSet.{CpuSet}
 use Rattle.board.specs.Description.{numberedOf, entryRight}
 use Rattle.board_record.specs.Record.{idlePlace, preparingPlace, halfPreparedPlace, deadPlace, placeOf, subjectNumber, isFor, isGathering, isAlone, skipsRendezvous}
 use Rattle.board_record.specs.declared.Record.{Record}
 use Rattle.board_record.specs.declared.State.{State}
-use Rattle.rules.specs.Calls.{skips}
+use Rattle.rules.specs.Calls.{skips, otherFlags, allPresent}
 use Rattle.reason.specs.declared.Activate.{Activate}
 use Rattle.reason.specs.declared.Reason.{Reason}
 use Rattle.reason.specs.declared.Reason.the-variants.{NothingPrepared, BeingPrepared, HalfPrepared, BoardDead, OtherComponent, OtherFlags, NotOptional, SkipInGathering, NoSkip, BadEntry, BeingActivated, Skipped, Held, AllPresent}
@@ -43,7 +43,7 @@ stateRows s =
 abbrev pub askRows : Record → Activate → List Rule
 askRows r a =
     (OtherComponent (subjectNumber (r .state)), not (isFor (r .state) (a .x1)))
-    ∷ (OtherFlags, ltb 1 (a .x2))
+    ∷ (OtherFlags, otherFlags (callOf a))
     ∷ []
 
 -- then skip: on a component that isn't optional, in gathering; none in alone or half-activated (H)
@@ -65,7 +65,7 @@ answerRows r a =
 abbrev pub joinRows : Record → Activate → List Rule
 joinRows r a =
     (Skipped, skips (callOf a))
-    ∷ (Held (missingOf r (a .cpu)), not (sameOf (withOf (r .held) (a .cpu)) (r .on)))
+    ∷ (Held (missingOf r (a .cpu)), not (allPresent r (a .cpu)))
     ∷ (AllPresent, true)
     ∷ []
 

@@ -1,5 +1,5 @@
 -- What is shown of reasons (`shown` and `own-shown`, proofs/Shown.antt). Assumes nothing.
-use Prim.Native.Nat.{ℕ, _<_}
+use Prim.Native.Nat.{ℕ, _<_, _≤_}
 use mathlib.Core.Path.{_≡_}
 use mathlib.Core.Bool.{true, false}
 use mathlib.Core.List.{List, _++_}
@@ -10,7 +10,7 @@ use Rattle.cpuset.specs.Set.{hasOf, withoutOf, lessOf}
 use Rattle.cpuset.specs.declared.CpuSet.{CpuSet}
 use Rattle.board.specs.declared.Board.{Board}
 use Rattle.board_record.specs.declared.Record.{Record}
-use Rattle.logbook.specs.Log.{logBytes}
+use Rattle.logbook.specs.Log.{mostRecords, logBytes}
 use Rattle.rules.specs.Moves.{rowsFor}
 use Rattle.rules.specs.declared.Event.{Event}
 use Rattle.rules.specs.declared.Event.the-variants as event
@@ -20,7 +20,7 @@ use Rattle.reader.specs.Starts.{startsAt, poweredAt, heldAt}
 use Rattle.reader.specs.declared.Answer.the-variants as answer
 use Rattle.reader.specs.declared.Cpus.the-variants as cpus
 use Rattle.reader.specs.declared.Started.the-variants.{Of}
-use Rattle.trace.specs.Run.{run, logOf}
+use Rattle.trace.specs.Run.{run, logOf, AllTyped}
 use Rattle.trace.specs.Steady.{Some}
 use Rattle.history.specs.Walk.{walkedOf}
 use Rattle.history.specs.declared.Ended.the-variants.{Agrees}
@@ -67,21 +67,31 @@ pub record Shown (board log : List ℕ) (place : ℕ) (a : Activate) : Type 0 wh
   pub missing : (s : CpuSet) → explainedOf board log place a ≡ Because (Held s) → (cpu : ℕ) → hasOf s cpu ≡ true ↔ IsMissing (there board log place) a cpu
   pub somebody : (s : CpuSet) → explainedOf board log place a ≡ Because (Held s) → Some (λ cpu. hasOf s cpu ≡ true)
 
--- ---- of the agent's own logs: b is a board whose description reads, es and more any events from it fresh that leave no more records
--- than a log has, with registers of 64 bits and versions of 32, and the place that after the records of es
-module _ (description : List ℕ) (b : Board) (es more : List Event) (a : Activate) where
-  abbrev pub log : List ℕ
-  log = logBytes (logOf b (es ++ more))
+-- ---- of the agent's own logs: any events es and more from a fresh board, registers of 64 bits and versions of 32, that leave no more
+-- records than a log has; the log is that of all of them, and the place the one after es
+pub record IsOwn (b : Board) (es more : List Event) : Type 0 where
+  pub typed : AllTyped (es ++ more)
+  pub few : length (logOf b (es ++ more)) ≤ mostRecords
 
-  abbrev pub place : ℕ
-  place = length (logOf b es)
+abbrev pub ownLog : Board → List Event → List Event → List ℕ
+ownLog b es more = logBytes (logOf b (es ++ more))
 
-  pub record Own : Type 0 where
-    -- no refusal comes but the caller's, so no 35: it is explained by the agent's own record there
-    pub explained : explainedOf description log place a ≡ calledOf (run b es) a
-    -- the missing are those that the plain reader's powered and held sets give
-    pub missing : (s on held : CpuSet) → explainedOf description log place a ≡ Because (Held s) → poweredAt log place ≡ cpus.Found on → heldAt log place ≡ cpus.Found held
-        → s ≡ lessOf (withoutOf on (a .cpu)) held
-    -- "all present" comes exactly when the plain reader says that a rendezvous activation starts, and it says so of X1
-    pub present : explainedOf description log place a ≡ Because AllPresent ↔ startsAt description log place (callOf a) ≡ answer.Found (Of (a .x1))
-    pub starts : (c : ℕ) → startsAt description log place (callOf a) ≡ answer.Found (Of c) → c ≡ a .x1
+abbrev pub ownPlace : Board → List Event → ℕ
+ownPlace b es = length (logOf b es)
+
+-- for every description that reads, of a board b
+pub record Own (description : List ℕ) (b : Board) : Type 0 where
+  -- no refusal comes but the caller's, so no 35: it is explained by the agent's own record there
+  pub explained : (es more : List Event) → IsOwn b es more → (a : Activate)
+      → explainedOf description (ownLog b es more) (ownPlace b es) a ≡ calledOf (run b es) a
+  -- the missing are those that the plain reader's powered and held sets give
+  pub missing : (es more : List Event) → IsOwn b es more → (a : Activate) (s on held : CpuSet)
+      → explainedOf description (ownLog b es more) (ownPlace b es) a ≡ Because (Held s)
+      → poweredAt (ownLog b es more) (ownPlace b es) ≡ cpus.Found on → heldAt (ownLog b es more) (ownPlace b es) ≡ cpus.Found held
+      → s ≡ lessOf (withoutOf on (a .cpu)) held
+  -- "all present" comes exactly when the plain reader says that a rendezvous activation starts, and it says so of X1
+  pub present : (es more : List Event) → IsOwn b es more → (a : Activate)
+      → explainedOf description (ownLog b es more) (ownPlace b es) a ≡ Because AllPresent
+      ↔ startsAt description (ownLog b es more) (ownPlace b es) (callOf a) ≡ answer.Found (Of (a .x1))
+  pub starts : (es more : List Event) → IsOwn b es more → (a : Activate) (c : ℕ)
+      → startsAt description (ownLog b es more) (ownPlace b es) (callOf a) ≡ answer.Found (Of c) → c ≡ a .x1

@@ -124,6 +124,10 @@ primeOf r call = primeBy (ruleOf (r .state) .prime) r call
 abbrev pub skips : Call → Bool
 skips call = eqb (call .x2) 1
 
+-- flags that there are none of
+abbrev pub otherFlags : Call → Bool
+otherFlags call = ltb 1 (call .x2)
+
 -- skip for an optional component and not in gathering, and always in alone and half-activated (H)
 unfoldable pub skipRight : Component → State → Bool → Bool
 skipRight c s skip = pick skip (pick (isGathering s) false (c .optional)) (not (skipsRendezvous s))
@@ -132,13 +136,17 @@ skipRight c s skip = pick skip (pick (isGathering s) false (c .optional)) (not (
 unfoldable pub fieldsRight : Record → Call → Bool
 fieldsRight r call =
     isFor (r .state) (call .x1)
-    && pick (ltb 1 (call .x2)) false (skipRight (numberedOf (r .board) (call .x1)) (r .state) (skips call))
+    && pick (otherFlags call) false (skipRight (numberedOf (r .board) (call .x1)) (r .state) (skips call))
+
+-- with this caller all powered CPUs are held
+abbrev pub allPresent : Record → ℕ → Bool
+allPresent r cpu = sameOf (withOf (r .held) cpu) (r .on)
 
 -- a rendezvous: the caller is held, and the last of the powered CPUs starts it (Calls 25)
 unfoldable pub joinOf : Record → Call → Move
 joinOf r call =
     let a = arrivalOf call (mayReset (r .board) (call .x1)) in
-    pick (sameOf (withOf (r .held) (call .cpu)) (r .on)) (StartTogether a) (Gather a)
+    pick (allPresent r (call .cpu)) (StartTogether a) (Gather a)
 
 -- -8, then -10 (H), then -2, in document 01's order; then it starts alone with skip, or the caller joins
 unfoldable pub tryActivateOf : Record → Call → Move

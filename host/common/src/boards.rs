@@ -1,4 +1,4 @@
-//! Boards that both sides take: the usual one, and any.
+//! Boards that both sides take: the usual one, and any; and what is packed.
 
 use crate::dice::Dice;
 use peer::*;
@@ -118,5 +118,12 @@ pub fn described(board: &Board) -> Vec<u8> {
     let mut bytes = vec![0; 690];
     let length = board.write(&mut bytes).expect("a good board");
     bytes.truncate(length);
+    bytes
+}
+
+/// The bytes of a log record.
+pub fn packed(record: &LogRecord) -> [u8; RECORD_BYTES] {
+    let mut bytes = [0; RECORD_BYTES];
+    record.write(&mut bytes).expect("a good record");
     bytes
 }

@@ -1,6 +1,6 @@
 //! Why an ACTIVATE is refused, held or started: request 1, by the peer alone.
 
-use common::boards::{described, usual, FIRST, FIXED, LAST, OPTIONAL, PLAIN, RESETS, SVN};
+use common::boards::{described, packed, usual, FIRST, FIXED, LAST, OPTIONAL, PLAIN, RESETS, SVN};
 use common::convert::reason_number;
 use common::dice::Dice;
 use common::generate::{any_activate, event, Mood};
@@ -144,12 +144,6 @@ impl Walk {
 }
 
 /// The bytes of a record.
-fn packed(record: &LogRecord) -> [u8; RECORD_BYTES] {
-    let mut bytes = [0; RECORD_BYTES];
-    record.write(&mut bytes).expect("a good record");
-    bytes
-}
-
 fn ask(cpu: u64, [x1, x2, x3, x4]: [u64; 4]) -> Activate {
     Activate {
         cpu,

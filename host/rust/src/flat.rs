@@ -15,7 +15,7 @@ pub const MOST_CPUS: usize = 64;
 #[repr(C)]
 #[derive(Clone, Copy, Debug, Default, PartialEq, Eq)]
 pub struct Abi {
-    /// The ABI number: every other layout or meaning of a number has another.
+    /// The ABI number: every other layout, meaning of a number or need of more stack has another.
     pub number: u64,
     /// Bytes of a [`Record`].
     pub record: u64,
@@ -28,7 +28,7 @@ pub struct Abi {
 impl Abi {
     /// The library that this wrapper is for.
     pub const OWN: Abi = Abi {
-        number: 1,
+        number: 2,
         record: size_of::<Record>() as u64,
         event: size_of::<Event>() as u64,
         answer: size_of::<Answer>() as u64,
@@ -322,7 +322,7 @@ pub struct Why {
     pub refusal: u64,
     /// If refused, the place of the record to blame, or 0 where it is the log, the board or the call.
     pub place: usize,
-    /// 0 if refused, else the place in [`Reason`](crate::Reason), from 1 on; a new reason takes the next.
+    /// 0 if refused, else the number of a [`Reason`](crate::Reason), from 1 on; a new one takes the next.
     pub reason: u64,
     /// The component that the reason has, else 0.
     pub component: u64,

@@ -11,11 +11,11 @@ pub enum Reason {
     /// -7: nothing is prepared.
     NothingPrepared,
     /// -7: this component is being prepared.
-    Preparing(u64),
+    BeingPrepared(u64),
     /// -7: this component is half prepared.
     HalfPrepared(u64),
     /// -7: the board is dead.
-    Dead,
+    BoardDead,
     /// -8: X1 is not this component, which the state is about.
     OtherComponent(u64),
     /// -8: flags above bit 0.
@@ -23,13 +23,13 @@ pub enum Reason {
     /// -8: skip on a component that is not optional.
     NotOptional,
     /// -8: skip while gathering.
-    SkipWhileGathering,
+    SkipInGathering,
     /// -8: no skip in an activation without rendezvous.
     NoSkip,
     /// -10: X3 is no good entry.
     BadEntry,
     /// -2: this component is being activated without rendezvous.
-    Alone(u64),
+    BeingActivated(u64),
     /// Activation starts, without rendezvous.
     Skipped,
     /// The caller is held, and these powered CPUs are still missing.
@@ -48,16 +48,16 @@ impl Reason {
         Flaw::check(w.refusal, w.place)?;
         Ok(match w.reason {
             1 => Reason::NothingPrepared,
-            2 => Reason::Preparing(w.component),
+            2 => Reason::BeingPrepared(w.component),
             3 => Reason::HalfPrepared(w.component),
-            4 => Reason::Dead,
+            4 => Reason::BoardDead,
             5 => Reason::OtherComponent(w.component),
             6 => Reason::OtherFlags,
             7 => Reason::NotOptional,
-            8 => Reason::SkipWhileGathering,
+            8 => Reason::SkipInGathering,
             9 => Reason::NoSkip,
             10 => Reason::BadEntry,
-            11 => Reason::Alone(w.component),
+            11 => Reason::BeingActivated(w.component),
             12 => Reason::Skipped,
             13 => Reason::Held(w.missing),
             14 => Reason::AllPresent,

@@ -3,7 +3,7 @@
 
 use crate::tally::Tally;
 use crate::walks::Walk;
-use common::boards::{any, described};
+use common::boards::{any, described, packed};
 use common::convert::*;
 use common::dice::Dice;
 use common::generate::{entry, id, junk_event, noise, ACTIVATE_CODES, FUNCTIONS, PRIME_CODES};
@@ -264,6 +264,13 @@ fn any_record(dice: &mut Dice, record: &Record) -> LogRecord {
     }
 }
 
+/// A log of any records.
+fn any_log(dice: &mut Dice, record: &Record) -> Vec<u8> {
+    (0..dice.below(16))
+        .flat_map(|_| packed(&any_record(dice, record)))
+        .collect()
+}
+
 /// Readable records in any order: what is read off them goes by the rules of
 /// the log alone.
 #[test]
@@ -279,13 +286,7 @@ fn logs_that_no_agent_writes() {
         }
         let described = described(&board);
         let record = Record::fresh(board);
-        let mut log = Vec::new();
-        for _ in 0..dice.below(16) {
-            let mut bytes = [0; RECORD_BYTES];
-            let one = any_record(&mut dice, &record);
-            one.write(&mut bytes).expect("a good record");
-            log.extend_from_slice(&bytes);
-        }
+        let log = any_log(&mut dice, &record);
         for place in 0..=log.len() / RECORD_BYTES {
             dice.next_step();
             let prepared = ask_prepared(&dice, &log, place).expect("a good log");

@@ -3,6 +3,7 @@
 
 use crate::tally::Tally;
 use crate::walks::Walk;
+use common::boards::packed;
 use common::dice::Dice;
 use common::generate::{any_call, ACTIVATE_CODES, PRIME_CODES};
 use common::pair::check_why;
@@ -71,12 +72,6 @@ impl Story {
         }
         Some(log)
     }
-}
-
-pub fn packed(record: &LogRecord) -> [u8; RECORD_BYTES] {
-    let mut bytes = [0; RECORD_BYTES];
-    record.write(&mut bytes).expect("a good record");
-    bytes
 }
 
 /// The bytes of the record at a place.

@@ -1,7 +1,7 @@
 //! Long walks over all states, each event on both sides.
 
 use crate::tally::Tally;
-use common::boards::{any, any_of, described};
+use common::boards::{any, any_of, described, packed};
 use common::convert::*;
 use common::dice::{from_env, Dice};
 use common::generate::{self, junk_event, Mood};
@@ -118,12 +118,8 @@ impl Walk {
     fn write(&mut self, dice: &mut Dice, event: &Event, form: flat::Event, answer: Answer) {
         let flat = flat_answer(&Ok(answer));
         let record = logged(event, &answer);
-        let bytes = log(dice, form, flat, Some(record)).unwrap_or_else(|| {
-            // There was no room: it is written again.
-            let mut bytes = [0; RECORD_BYTES];
-            record.write(&mut bytes).expect("a good record");
-            bytes
-        });
+        // Where there was no room it is written again.
+        let bytes = log(dice, form, flat, Some(record)).unwrap_or_else(|| packed(&record));
         self.log.extend_from_slice(&bytes);
     }
 

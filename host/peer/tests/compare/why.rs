@@ -3,15 +3,17 @@
 
 use crate::boards;
 use crate::logs::{self, full_walk};
-use crate::story::{packed, record_of, refused_cpu, Change, Story, CHANGES};
+use crate::story::{record_of, refused_cpu, Change, Story, CHANGES};
 use crate::tally::{add, exactly};
 use crate::walks::Walk;
+use common::boards::packed;
 use common::convert::{reason_number, state_number};
 use common::dice::Dice;
 use common::generate::any_activate;
 use common::pair::{ask_why, same};
 use peer::*;
 use std::collections::BTreeMap;
+use std::ops::Range;
 
 /// The reasons of each state, by their numbers. In together nobody can call.
 const REASONS: [&[u64]; 9] = [
@@ -180,6 +182,16 @@ fn spoil(dice: &mut Dice, bytes: &mut [u8], number: u64) {
     }
 }
 
+/// Makes some records of a log bad.
+fn spoil_some(dice: &mut Dice, log: &mut [u8], places: Range<usize>) {
+    for place in places {
+        if dice.one_in(4) {
+            let number = dice.one_of(&[31, 32]);
+            spoil(dice, record_of(log, place), number);
+        }
+    }
+}
+
 /// A bad record anywhere, and another one that differs: the bad one comes,
 /// after the other one and after the place too.
 #[test]
@@ -200,12 +212,7 @@ fn bad_records_and_one_that_differs() {
         }
         spoil(&mut dice, record_of(&mut log, bad), number);
         // Of more bad ones, the first comes.
-        for later in bad + 1..records {
-            if dice.one_in(4) {
-                let other = dice.one_of(&[31, 32]);
-                spoil(&mut dice, record_of(&mut log, later), other);
-            }
-        }
+        spoil_some(&mut dice, &mut log, bad + 1..records);
         for place in 0..=records {
             dice.next_step();
             let ask = any_activate(&mut dice, story.at(place));

@@ -10,7 +10,7 @@ use lfa::flat::{
 #[test]
 fn the_library_is_the_one_that_the_wrapper_is_for() {
     let own = Abi {
-        number: 1,
+        number: 2,
         record: 2024,
         event: 88,
         answer: 80,

@@ -130,7 +130,7 @@ fn the_log_says_why() {
         refused(Refusal::CPU_OFF),
         idle,
         idle,
-        Ok(Reason::Preparing(UPDATED)),
+        Ok(Reason::BeingPrepared(UPDATED)),
         waits_for(0),
         Ok(Reason::AllPresent),
         held,

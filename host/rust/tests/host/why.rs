@@ -29,14 +29,14 @@ fn each_state_says_why() {
     let told = in_every_state(PLAIN).map(|host| host.why(1, activate(1, PLAIN)));
     let expected = [
         Ok(Reason::NothingPrepared),
-        Ok(Reason::Preparing(PLAIN)),
+        Ok(Reason::BeingPrepared(PLAIN)),
         Ok(Reason::HalfPrepared(PLAIN)),
         held(&[0]),
         Ok(Reason::AllPresent),
         refused(Refusal::CPU_HELD, 0),
         Ok(Reason::OtherComponent(OPTIONAL)),
         Ok(Reason::OtherComponent(OPTIONAL)),
-        Ok(Reason::Dead),
+        Ok(Reason::BoardDead),
     ];
     assert_eq!(told, expected);
 }
@@ -63,12 +63,12 @@ fn the_first_rule_is_named() {
 #[test]
 fn skip_goes_by_the_state() {
     let optional = Host::usual().powered(2).ready(OPTIONAL);
-    let alone = Ok(Reason::Alone(OPTIONAL));
+    let alone = Ok(Reason::BeingActivated(OPTIONAL));
     for (host, with_skip, without) in [
         (optional, Ok(Reason::Skipped), held(&[0])),
         (
             Host::usual().gathering(OPTIONAL),
-            Ok(Reason::SkipWhileGathering),
+            Ok(Reason::SkipInGathering),
             Ok(Reason::AllPresent),
         ),
         (Host::usual().alone(), alone, Ok(Reason::NoSkip)),

@@ -3,6 +3,7 @@ use mathlib.Core.Path.{refl, ap}
 use mathlib.Core.Bool.{not}
 use borrow.Author.Tests.{lt-ltb, le-ltb}
 use Rattle.basics.specs.Choice.{yes, no, by}
+use Rattle.reason.specs.Reason.{callOf}
 use Rattle.reason.specs.declared.Reason.the-variants.{OtherComponent}
 use borrow.Author.Needs.{needs}
 use Rattle.reason.proofs.ruling.asked.Statement.{statement}
@@ -12,6 +13,7 @@ is-for-requires : tie.Need-is-for-requires
 is-for-requires c κs = search needs
 
 returns : tie.Need-returns
+unfolding callOf
 returns c =
     let i = c .before .before in
     no _ (ap not (by (i .before .is-for .ensures) (i .if1 .taken))) (yes _ (lt-ltb _ _ (c .if2 .taken)) refl)
@@ -20,6 +22,7 @@ skipping-requires : tie.Need-skipping-requires
 skipping-requires c κs = search needs
 
 returns-2 : tie.Need-returns-2
+unfolding callOf
 returns-2 c =
     let e = c .before in
     let i = e .before .before in
