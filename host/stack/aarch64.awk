@@ -7,11 +7,11 @@ function moves(op, args, word, n) {
     if (op !~ /^(sub|add)$/ || args !~ /^sp, sp, #[0-9]+(, lsl #12)?$/) stop(name ": cannot read " op " " args)
     if (op == "sub") frame[name] += word[3] * (n == 4 ? 4096 : 1)
 }
-# sp moves as something is stored below it, or loaded from it
+# sp moves as something is stored below it, at it and then below, or loaded from it
 function moves_beside(op, args) {
     if (args ~ /\[sp\], #[0-9]+$/) return
-    if (args !~ /\[sp, #-[0-9]+\]!$/) stop(name ": cannot read " op " " args)
-    sub(/.*\[sp, #-/, "", args); sub(/\]!$/, "", args)
+    if (args !~ /\[sp, #-[0-9]+\]!$|\[sp\], #-[0-9]+$/) stop(name ": cannot read " op " " args)
+    sub(/.*\[sp\]?, #-/, "", args); sub(/\]!$/, "", args)
     frame[name] += args
 }
 function goes(args) {
