@@ -79,7 +79,9 @@
 //! CPU_ON powers any CPU, also one that the board has not; and skip is bit 0 of
 //! X2 of an outcome 4, whatever the function. Nor is it on two points of
 //! [`why_at`] that follow these choices too: place 0 where no record is to
-//! blame, and the component of [`Reason::OtherComponent`].
+//! blame, and the component of [`Reason::OtherComponent`]. The list of reasons
+//! and the order of its refusals are one wording of request 1 on both sides: that
+//! they agree shows no slip, and not that the request was read right.
 
 mod answer;
 mod board;
