@@ -336,8 +336,16 @@ mod linked {
         Written,
     };
 
-    // The library's convention, also where C has another.
-    extern "sysv64" {
+    // The library's convention: on x86-64 that of System V, also where C has another.
+    macro_rules! library {
+        ($($functions:tt)*) => {
+            #[cfg(target_arch = "x86_64")]
+            extern "sysv64" { $($functions)* }
+            #[cfg(not(target_arch = "x86_64"))]
+            extern "C" { $($functions)* }
+        };
+    }
+    library! {
         pub fn lfa_abi() -> Abi;
         pub fn lfa_describe(buf: *mut u8, buf_length: usize, board: Board) -> Written;
         pub fn lfa_fresh(board: *const u8, board_length: usize) -> Fresh;

@@ -10,8 +10,8 @@
 //! before anything crosses to it, and one whose answer, state or reason has a number that this wrapper does not know.
 //!
 //! Of what the library asks of a host (`lfa.h`), the types see to pointers, lengths and one call at a time for a record. The
-//! rest is for the host: a stack as deep as `LFA_STACK_` says and on which no interrupt is taken, since the red zone is in use,
-//! and SSE2 switched on. A program under Linux has all this from the system.
+//! rest is for the host: a stack as deep as `LFA_STACK_` says, and on x86-64 one on which no interrupt is taken, since the red
+//! zone is in use, and SSE2 switched on. A program under Linux has all this from the system.
 //!
 //! ```
 //! use lfa::{describe, function, write_log, Board, Call, Caller, Event, Image, Record, State};
