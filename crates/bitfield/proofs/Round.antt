@@ -5,9 +5,8 @@ use mathlib.Core.Path.{_≡_, refl, sym, ap, _∙_}
 use mathlib.Core.List.{List, [], _∷_, _++_}
 use native.Mathlib.Nat.{add-zero, mul-assoc, add-assoc, div-div-eq-div-mul, mod-eq-of-lt, mul-suc, mul-le-mul-left, add-comm, add-mul-div-right, zero-add, suc-add, add-mul}
 use native.Mathlib.Omega.{arith}
-use native.Mathlib.Numerals.{add-one}
 use lib.ListN.{length, getD, take, drop, replicate, List·getD-append, take-append-drop}
-use lib.Seq.{getD-drop, drop-append-seam, length-take-le, take-suc}
+use lib.Seq.{getD-drop, drop-append-seam, length-take-le}
 use lib.Pow.{pow-add, mod-pow-add, high, low, pow-pos}
 use lib.Arith.{digits-lt}
 use Rattle.basics.specs.Order.{last-cases}
@@ -194,13 +193,6 @@ bytes-append (suc m) n x y h =
 total-append : (ws us : List ℕ) → total (ws ++ us) ≡ total ws + total us
 total-append [] us = omega arith
 total-append (w ∷ ws) us = rw (total-append ws us, add-assoc)
-
--- where the next field starts
-pub total-next : (ws : List ℕ) (k : ℕ) → k < length ws → total (take (k + 1) ws) ≡ total (take k ws) + getD ws k 0
-total-next ws k h = rw (add-one k, take-suc ws k 0 h, total-append (take k ws) (getD ws k 0 ∷ []), add-zero)
-
-pub total-within : (ws : List ℕ) (k : ℕ) → total (take k ws) ≤ total ws
-total-within ws k = omega (arith, ap total (take-append-drop k ws), total-append (take k ws) (drop k ws))
 
 -- the number of two layouts' values, one after the other
 pub join-append : (ws vs us xs : List ℕ) → Fit ws vs → join (ws ++ us) (vs ++ xs) ≡ join ws vs * 2 ^ total us + join us xs

@@ -1,8 +1,9 @@
 // Fields of a slice of bytes, most significant bit first: reading one of up to 64 bits anywhere, writing whole bytes.
 ghost use mathlib.Core.Path.{_≡_};
-ghost use Prim.Native.Nat.{_+_, _*_, _<_, _≤_};
-ghost use lib.ListN.{length};
-ghost use Rattle.bitfield.specs.Bits.{widestBytes, bitAt, fieldAt, valueIn, roomFor, written, put, bytes};
+ghost use Prim.Native.Nat.{_+_, _-_, _*_, _/_, _%_, _^_, _<_, _≤_};
+ghost use lib.ListN.{length, getD};
+ghost use Rattle.basics.specs.Places.{firsts};
+ghost use Rattle.bitfield.specs.Bits.{widest, widestBytes, valueAt, fieldAt, valueIn, roomFor, written, put, bytes};
 
 // The widest field, in bits and in bytes: a word.
 const WIDEST: usize = 64;
@@ -21,12 +22,70 @@ fn wide(x: u8) -> u64
     x as u64
 }
 
-// Bit off of those from byte k on. Two numbers, since a bit's place in a long slice may not fit one.
-fn bit(s: &[u8], k: usize, off: usize) -> u64
-    requires { ⌜ 8 * k + off < 8 * length (now s) ⌝ }
-    ensures { λ r. ⌜ r ≡ bitAt (now (s .entry)) (8 * k + off) ⌝ }
+// The number that the n bytes from byte k on write in the other order.
+fn backwards(s: &[u8], k: usize, n: usize) -> u64
+    requires { ⌜ (n ≤ widestBytes) × (k + n ≤ length (now s)) ⌝ }
+    ensures { λ r. ⌜ r ≡ valueAt (firsts n (λ i. getD (now (s .entry)) (k + (n - 1 - i)) 0)) 0 (8 * n) ⌝ }
 {
-    (wide(s[k + off / 8]) >> (7 - off % 8)) % 2
+    let mut v: u64 = 0;
+    let mut i: usize = 0;
+    while i < n {
+        v = v * 256 + wide(s[k + (n - 1 - i)]);
+        i += 1;
+    }
+    v
+}
+
+// The number that the bytes of x write in the other order.
+fn turned(x: u64) -> u64
+    ensures { λ r. ⌜ r ≡ valueAt (firsts widestBytes (λ i. x / 2 ^ (8 * i) % 256)) 0 widest ⌝ }
+{
+    let mut v: u64 = 0;
+    let mut i: usize = 0;
+    while i < WIDEST_BYTES {
+        v = v * 256 + (x >> (8 * i)) % 256;
+        i += 1;
+    }
+    v
+}
+
+// The number that the n bytes from byte k on write. Turned twice: where n is known, the compiler makes one load and one byte swap.
+fn number(s: &[u8], k: usize, n: usize) -> u64
+    requires { ⌜ (n ≤ widestBytes) × (k + n ≤ length (now s)) ⌝ }
+    ensures { λ r. ⌜ r ≡ valueAt (now (s .entry)) (8 * k) (8 * n) ⌝ }
+{
+    if n == 0 {
+        return 0;
+    }
+    turned(backwards(s, k, n)) >> (8 * (WIDEST_BYTES - n))
+}
+
+fn last_bits(v: u64, width: usize) -> u64
+    ensures { λ r. ⌜ r ≡ v % 2 ^ width ⌝ }
+{
+    if width >= WIDEST {
+        return v;
+    }
+    v % (1 << width)
+}
+
+// The field of width bits from bit off of byte k on, where a word covers it: its bytes, one shift and one remainder.
+fn covered(s: &[u8], k: usize, off: usize, width: usize) -> u64
+    requires { ⌜ (off + width ≤ widest) × (8 * k + off + width ≤ 8 * length (now s)) ⌝ }
+    ensures { λ r. ⌜ r ≡ valueAt (now (s .entry)) (8 * k + off) width ⌝ }
+{
+    let last = off + width + 7;
+    last_bits(number(s, k, last / 8) >> (7 - last % 8), width)
+}
+
+// The same where it takes nine bytes: what the first eight have of it, and the rest.
+fn joined(s: &[u8], k: usize, off: usize, width: usize) -> u64
+    requires { ⌜ (off < 8) × (width ≤ widest) × (widest < off + width) × (8 * k + off + width ≤ 8 * length (now s)) ⌝ }
+    ensures { λ r. ⌜ r ≡ valueAt (now (s .entry)) (8 * k + off) width ⌝ }
+{
+    let rest = off + width - WIDEST;
+    let first = last_bits(number(s, k, WIDEST_BYTES), width - rest);
+    (first << rest) + (wide(s[k + WIDEST_BYTES]) >> (8 - rest))
 }
 
 // The number that the width bits from bit at on write. Every reader goes through here.
@@ -36,16 +95,15 @@ pub fn read(s: &[u8], at: usize, width: usize) -> Field
     if width > WIDEST {
         return Field::Outside;
     }
-    if at / 8 + (at % 8 + width + 7) / 8 > s.len() {
+    let k = at / 8;
+    let off = at % 8;
+    if k + (off + width + 7) / 8 > s.len() {
         return Field::Outside;
     }
-    let mut v: u64 = 0;
-    let mut i: usize = 0;
-    while i < width {
-        v = v * 2 + bit(s, at / 8, at % 8 + i);
-        i += 1;
+    if off + width > WIDEST {
+        return Field::Value(joined(s, k, off, width));
     }
-    Field::Value(v)
+    Field::Value(covered(s, k, off, width))
 }
 
 // The same number for a caller that has looked at the length; 0 for a field that is outside.

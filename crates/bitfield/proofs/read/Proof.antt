@@ -1,104 +1,66 @@
--- By the loop's invariant: v is the value of the first i bits, one more each turn; the two tests before the loop are those of `fieldAt`.
-use borrow.Author.Needs.{needs}
+-- Each end is one of `fieldAt`: by its two tests, and inside by the byte and the bit of it at which the field begins.
 use native.Mathlib.Omega.{arith}
-use mathlib.Core.Path.{_≡_, ap}
-use Prim.Native.Nat.{_+_, _*_, _-_, _/_, _%_, _≤_, _<_}
+use mathlib.Core.Path.{_≡_}
+use Prim.Native.Nat.{ℕ, _+_, _*_, _/_, _%_, _≤_, _<_}
+use mathlib.Core.List.{List}
 use lib.ListN.{length}
 use borrow.Author.Tests.{le-leb, lt-leb}
-use Rattle.bitfield.specs.Bits.{bitAt, valueAt}
-use Rattle.bitfield.proofs.Laws.{value-more, value-fits}
+use Rattle.bitfield.specs.Bits.{widest, valueAt, fieldAt}
+use Rattle.bitfield.specs.declared.Field.the-variants.{Value}
+use borrow.Author.Needs.{needs}
 use Rattle.bitfield.proofs.read.Statement.{statement}
 use Rattle.bitfield.proofs.read.Tie as tie
 
-abbrev Inv-loop : tie.InvT-loop
-Inv-loop s at width v₀ i₀ v i = (i ≤ width) × (v ≡ valueAt s at i)
+-- a value that was read from a byte and a bit of it on
+inside-is : (s : List ℕ) (at w v : ℕ) → w ≤ widest → at + w ≤ 8 * length s → v ≡ valueAt s (8 * (at / 8) + at % 8) w → Value v ≡ fieldAt s at w
+inside-is s at w v h g e =
+    let p : 8 * (at / 8) + at % 8 ≡ at = omega arith in
+    simp (le-leb _ _ h, le-leb _ _ g, e, p)
 
-abbrev μ-loop : tie.MeasureT-loop
-μ-loop s at width v₀ i₀ v i = width - i
-
--- the tests say whether the bits lie in s
-returns : tie.Need-returns Inv-loop μ-loop
+returns : tie.Need-returns
 returns c = simp (lt-leb _ _ (c .if1 .taken))
 
-add-if2 : tie.Need-add-if2 Inv-loop μ-loop
-add-if2 c = omega arith
+add-if2 : tie.Need-add-if2
+add-if2 c = search needs
 
-add-if2-2 : tie.Need-add-if2-2 Inv-loop μ-loop
-add-if2-2 c = omega arith
+add-if2-2 : tie.Need-add-if2-2
+add-if2-2 c = search needs
 
-add-if2-3 : tie.Need-add-if2-3 Inv-loop μ-loop
-add-if2-3 c = omega arith
+add-if2-3 : tie.Need-add-if2-3
+add-if2-3 c = search needs
 
-returns-2 : tie.Need-returns-2 Inv-loop μ-loop
+returns-2 : tie.Need-returns-2
 returns-2 c =
     let a = c .before .before .before .args in
     let out : 8 * length (a .s .now) < a .at + a .width = omega arith in
     simp (le-leb _ _ (c .before .if1 .left), lt-leb _ _ out)
 
-loop-holds : tie.Need-loop-holds Inv-loop μ-loop
-unfolding valueAt
-loop-holds c = search needs
+add-if3 : tie.Need-add-if3
+add-if3 c = search needs
 
-mul-v : tie.Need-mul-v Inv-loop μ-loop
-mul-v c =
-    let l = c .before in
-    let a = l .before .before .before .before .args in
-    omega (arith, value-more (a .s .now) (a .at) (l .loop .i), value-fits (a .s .now) (a .at) (l .loop .i + 1) (omega arith))
+joined-requires : tie.Need-joined-requires
+joined-requires c κs = search needs
 
-add-bit : tie.Need-add-bit Inv-loop μ-loop
-add-bit c = omega arith
+returns-3 : tie.Need-returns-3
+returns-3 c = inside-is _ _ _ _ (omega arith) (omega arith) (c .joined .ensures)
 
-bit-requires : tie.Need-bit-requires Inv-loop μ-loop
-bit-requires c κs = omega arith
+covered-requires : tie.Need-covered-requires
+covered-requires c κs = search needs
 
--- one bit more
-more : (c : tie.After-bit Inv-loop μ-loop) → c .before .before .loop .v * 2 + c .bit .result ≡ valueAt (c .before .before .before .before .before .before .args .s .now) (c .before .before .before .before .before .before .args .at) (c .before .before .loop .i + 1)
-more c =
-    let l = c .before .before in
-    let a = l .before .before .before .before .args in
-    let e : 8 * (a .at / 8) + (a .at % 8 + l .loop .i) ≡ a .at + l .loop .i = omega arith in
-    omega (arith, value-more (a .s .now) (a .at) (l .loop .i), ap (bitAt (a .s .now)) e)
-
-add-v : tie.Need-add-v Inv-loop μ-loop
-add-v c =
-    let l = c .before .before in
-    let a = l .before .before .before .before .args in
-    omega (arith, more c, value-fits (a .s .now) (a .at) (l .loop .i + 1) (omega arith))
-
-add-i : tie.Need-add-i Inv-loop μ-loop
-add-i c = omega arith
-
-loop-less : tie.Need-loop-less Inv-loop μ-loop
-loop-less c = omega arith
-
-loop-again : tie.Need-loop-again Inv-loop μ-loop
-loop-again c = (omega arith, more c)
-
-returns-3 : tie.Need-returns-3 Inv-loop μ-loop
-returns-3 c =
-    let b = c .before .before in
-    let a = b .before .before .before .args in
-    let inside : a .at + a .width ≤ 8 * length (a .s .now) = omega arith in
-    let end : c .before .loop .i ≡ a .width = omega arith in
-    simp (le-leb _ _ (b .before .if1 .left), le-leb _ _ inside, end, c .before .loop .inv .1)
+returns-4 : tie.Need-returns-4
+returns-4 c = inside-is _ _ _ _ (omega arith) (omega arith) (c .covered .ensures)
 
 pub read-spec : {M : Type 1} → statement M
 read-spec =
     tie.close
     (tie.spec
-    Inv-loop
-    μ-loop
     returns
     add-if2
     add-if2-2
     add-if2-3
     returns-2
-    loop-holds
-    mul-v
-    add-bit
-    bit-requires
-    add-v
-    add-i
-    loop-less
-    loop-again
-    returns-3)
+    add-if3
+    joined-requires
+    returns-3
+    covered-requires
+    returns-4)

@@ -1,0 +1,42 @@
+use native.Mathlib.Omega.{arith}
+use mathlib.Core.Path.{_∙_}
+use Prim.Native.Nat.{_*_}
+use Rattle.bitfield.proofs.ByBytes.{value-cut}
+use borrow.Author.Needs.{needs}
+use Rattle.bitfield.proofs.covered.Statement.{statement}
+use Rattle.bitfield.proofs.covered.Tie as tie
+
+add-last : tie.Need-add-last
+add-last c = search needs
+
+add-last-2 : tie.Need-add-last-2
+add-last-2 c = search needs
+
+number-requires : tie.Need-number-requires
+number-requires c κs = search needs
+
+sub-last-bits : tie.Need-sub-last-bits
+sub-last-bits c = search needs
+
+shr-last-bits : tie.Need-shr-last-bits
+shr-last-bits c = search needs
+
+last-bits-requires : tie.Need-last-bits-requires
+last-bits-requires c κs = search needs
+
+returns : tie.Need-returns
+returns c =
+    let a = c .before .before .before .args in
+    c .last-bits .ensures ∙ value-cut (a .s .now) (8 * a .k) (a .off) (a .width) _ _ _ (omega arith) (c .before .number .ensures)
+
+pub covered-spec : {M : Type 1} → statement M
+covered-spec =
+    tie.close
+    (tie.spec
+    add-last
+    add-last-2
+    number-requires
+    sub-last-bits
+    shr-last-bits
+    last-bits-requires
+    returns)
