@@ -1,3 +1,4 @@
+-- The number of the covering bytes, cut at both ends (`value-cut`): the bits past the field are those from its end to the last byte's.
 use native.Mathlib.Omega.{arith}
 use mathlib.Core.Path.{_∙_}
 use Prim.Native.Nat.{_*_}

@@ -1,3 +1,4 @@
+-- No bytes write 0; n bytes turned twice are the upper ones of a word (`turned-back`).
 use native.Mathlib.Omega.{arith}
 use mathlib.Core.Path.{_≡_, sym}
 use Rattle.bitfield.proofs.ByBytes.{no-bytes, turned-back}
