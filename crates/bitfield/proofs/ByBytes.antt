@@ -24,7 +24,7 @@ byte-more s k i h =
     let at : 8 * k + 8 * i ≡ 8 * (k + i) = omega arith in
     rw (w, value-join s (8 * k) (8 * i) 8, at, value-byte s (k + i) h)
 
--- of those that a list has by its places
+-- one byte more of a list that is given by its places
 pub next-byte : (n : ℕ) (f : ℕ → ℕ) (i v : ℕ) → i < n → f i < 256 → v ≡ valueAt (firsts n f) 0 (8 * i) → v * 256 + f i ≡ valueAt (firsts n f) 0 (8 * (i + 1))
 next-byte n f i v h b e =
     let g : getD (firsts n f) (0 + i) 0 ≡ f i = rw zero-add (getD-firsts f n i 0 h) in

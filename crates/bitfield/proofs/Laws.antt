@@ -20,11 +20,6 @@ pub bit-lt : (s : List ℕ) (p : ℕ) → bitAt s p < 2
 unfolding bitAt
 bit-lt s p = omega arith
 
--- one bit more
-pub value-more : (s : List ℕ) (at w : ℕ) → valueAt s at (w + 1) ≡ valueAt s at w * 2 + bitAt s (at + w)
-unfolding valueAt
-value-more s at w = rw add-one
-
 pub value-lt : (s : List ℕ) (at w : ℕ) → valueAt s at w < 2 ^ w
 unfolding valueAt
 value-lt s at zero = omega arith

@@ -49,7 +49,8 @@ fn turned(x: u64) -> u64
     v
 }
 
-// The number that the n bytes from byte k on write. Turned twice: where n is known, the compiler makes one load and one byte swap.
+// The number that the n bytes from byte k on write. Turned twice: where n is known and accesses need not be aligned, the compiler
+// makes one load and one byte swap of it. No bytes would be a shift by a whole word, which there is not.
 fn number(s: &[u8], k: usize, n: usize) -> u64
     requires { ⌜ (n ≤ widestBytes) × (k + n ≤ length (now s)) ⌝ }
     ensures { λ r. ⌜ r ≡ valueAt (now (s .entry)) (8 * k) (8 * n) ⌝ }
@@ -69,13 +70,14 @@ fn last_bits(v: u64, width: usize) -> u64
     v % (1 << width)
 }
 
-// The field of width bits from bit off of byte k on, where a word covers it: its bytes, one shift and one remainder.
+// The field of width bits from bit off of byte k on, where a word covers it: its bytes, one shift and one remainder. Rounded up to
+// whole bytes, its end says how many there are, and how many bits of the last stand past it.
 fn covered(s: &[u8], k: usize, off: usize, width: usize) -> u64
     requires { ⌜ (off + width ≤ widest) × (8 * k + off + width ≤ 8 * length (now s)) ⌝ }
     ensures { λ r. ⌜ r ≡ valueAt (now (s .entry)) (8 * k + off) width ⌝ }
 {
-    let last = off + width + 7;
-    last_bits(number(s, k, last / 8) >> (7 - last % 8), width)
+    let end = off + width + 7;
+    last_bits(number(s, k, end / 8) >> (7 - end % 8), width)
 }
 
 // The same where it takes nine bytes: what the first eight have of it, and the rest.

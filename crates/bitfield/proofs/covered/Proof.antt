@@ -7,11 +7,11 @@ use borrow.Author.Needs.{needs}
 use Rattle.bitfield.proofs.covered.Statement.{statement}
 use Rattle.bitfield.proofs.covered.Tie as tie
 
-add-last : tie.Need-add-last
-add-last c = search needs
+add-end : tie.Need-add-end
+add-end c = search needs
 
-add-last-2 : tie.Need-add-last-2
-add-last-2 c = search needs
+add-end-2 : tie.Need-add-end-2
+add-end-2 c = search needs
 
 number-requires : tie.Need-number-requires
 number-requires c κs = search needs
@@ -34,8 +34,8 @@ pub covered-spec : {M : Type 1} → statement M
 covered-spec =
     tie.close
     (tie.spec
-    add-last
-    add-last-2
+    add-end
+    add-end-2
     number-requires
     sub-last-bits
     shr-last-bits
