@@ -1,8 +1,9 @@
--- Fields by bytes: a number's bytes turned round twice are the number, by what each place holds; a field is cut out of the number of the bytes that cover it. Assumes nothing.
+-- Fields by bytes: a number's bytes turned round twice are the number, by what each place holds; a field is cut out of the number of
+-- the bytes that cover it. Assumes nothing.
 use Prim.Native.Nat.{ℕ, zero, suc, _+_, _-_, _*_, _/_, _%_, _^_, _≤_, _<_}
 use mathlib.Core.Path.{_≡_, refl, sym, ap, _∙_}
 use mathlib.Core.List.{List}
-use native.Mathlib.Nat.{zero-add, one-mul}
+use native.Mathlib.Nat.{zero-add}
 use native.Mathlib.Omega.{arith}
 use native.Mathlib.Numerals.{add-one}
 use lib.ListN.{length, getD}
@@ -13,9 +14,9 @@ use Rattle.bitfield.specs.Bits.{AreBytes, widest, widestBytes, valueAt, 
 use Rattle.bitfield.proofs.Laws.{value-lt, value-join, value-byte, getD-bytes, firsts-bytes}
 use Rattle.bitfield.proofs.Round.{bytes-value}
 
-pub no-bytes : (s : List ℕ) (p : ℕ) → valueAt s p 0 ≡ 0
+pub value-none : (s : List ℕ) (p : ℕ) → valueAt s p 0 ≡ 0
 unfolding valueAt
-no-bytes s p = refl
+value-none s p = refl
 
 -- one byte more
 byte-more : (s : List ℕ) (k i : ℕ) → getD s (k + i) 0 < 256 → valueAt s (8 * k) (8 * (i + 1)) ≡ valueAt s (8 * k) (8 * i) * 256 + getD s (k + i) 0
@@ -49,7 +50,7 @@ turned-byte s k n x i b h e =
 
 -- the same bytes write the same number
 value-same : (l s : List ℕ) (k n : ℕ) → AreBytes s → ((i : ℕ) → i < n → getD l i 0 ≡ getD s (k + i) 0) → valueAt l 0 (8 * n) ≡ valueAt s (8 * k) (8 * n)
-value-same l s k zero b h = no-bytes l 0 ∙ sym (no-bytes s (8 * k))
+value-same l s k zero b h = value-none l 0 ∙ sym (value-none s (8 * k))
 value-same l s k (suc n) b h =
     let g : getD l (0 + n) 0 ≡ getD s (k + n) 0 = rw zero-add (h n (omega arith)) in
     rw (← add-one n, byte-more l 0 n (rw g (b (k + n))), byte-more s k n (b (k + n)), g, value-same l s k n b (λ i m. h i (omega arith)))
@@ -72,10 +73,6 @@ value-low s p a w b x h e = rw (e, h, value-join s p a w, low (valueAt s p a) w 
 pub value-cut : (s : List ℕ) (p a w b t x : ℕ) → b ≡ a + w + t → x ≡ valueAt s p b → x / 2 ^ t % 2 ^ w ≡ valueAt s (p + a) w
 value-cut s p a w b t x h e =
     value-low s p a w (a + w) (x / 2 ^ t) refl (rw (e, h, value-join s p (a + w) t, high (valueAt s p (a + w)) t (value-lt s (p + (a + w)) t)))
-
--- what `1 << w` gives
-pub one-shifted : (w : ℕ) → w < widest → 1 * 2 ^ w % 2 ^ widest ≡ 2 ^ w
-one-shifted w h = shl-exact {a = 1} 1 w widest (omega arith) (omega arith) ∙ one-mul (2 ^ w)
 
 -- a field in two parts, of which the first is shifted to its place in a word
 pub value-joined : (s : List ℕ) (p a b : ℕ) → a + b ≤ widest → valueAt s p a * 2 ^ b % 2 ^ widest + valueAt s (p + a) b ≡ valueAt s p (a + b)

@@ -2,6 +2,7 @@
 -- Assumes nothing.
 use Prim.Native.Nat.{ℕ, zero, suc, _+_, _*_, _/_, _%_, _^_, _≤_, _<_}
 use mathlib.Core.Path.{_≡_, refl, sym, ap, _∙_}
+use mathlib.Core.Bool.{Bool, true, _&&_}
 use mathlib.Core.List.{List, [], _∷_, _++_}
 use native.Mathlib.Nat.{add-zero, mul-assoc, add-assoc, div-div-eq-div-mul, mod-eq-of-lt, mul-suc, mul-le-mul-left, add-comm, add-mul-div-right, zero-add, suc-add, add-mul}
 use native.Mathlib.Omega.{arith}
@@ -9,11 +10,14 @@ use lib.ListN.{length, getD, take, drop, replicate, List·getD-append, take-appe
 use lib.Seq.{getD-drop, drop-append-seam, length-take-le}
 use lib.Pow.{pow-add, mod-pow-add, high, low, pow-pos}
 use lib.Arith.{digits-lt}
+use lib.Dec.{leb}
+use borrow.Author.Tests.{leb-true}
+use Rattle.basics.specs.Choice.{both}
 use Rattle.basics.specs.Order.{last-cases}
 use Rattle.basics.specs.Places.{firsts, firsts-front, firsts-same, inTurn, length-inTurn, inTurn-front}
-use Rattle.bitfield.specs.Bits.{AreBytes, bitAt, valueAt, bytes}
+use Rattle.bitfield.specs.Bits.{AreBytes, widest, bitAt, valueAt, fieldAt, valueIn, bytes}
 use Rattle.bitfield.specs.Layout.{total, fields, fieldOf, join, Fit}
-use Rattle.bitfield.proofs.Laws.{value-join, value-byte, value-lt, length-bytes}
+use Rattle.bitfield.proofs.Laws.{value-join, value-byte, value-lt, value-inside, length-bytes}
 
 -- ---- a field of a part
 
@@ -139,6 +143,22 @@ fields-are [] at s = refl
 fields-are (w ∷ ws) at s =
     rw (firsts-front (length ws) (λ k. fieldOf (w ∷ ws) k at s), add-zero, fields-are ws (at + w) s)
     (ap (λ (l : List ℕ). valueAt s at w ∷ l) (firsts-same (length ws) _ _ (λ k h. rw add-assoc)))
+
+-- what `value` reads of a layout of fields that are at most a word each, one after another
+abbrev pub readIn : List ℕ → ℕ → List ℕ → List ℕ
+readIn [] at s = []
+readIn (w ∷ ws) at s = valueIn (fieldAt s at w) ∷ readIn ws (at + w) s
+
+abbrev pub narrow : List ℕ → Bool
+narrow [] = true
+narrow (w ∷ ws) = leb w widest && narrow ws
+
+pub read-fields : (ws : List ℕ) (at : ℕ) (s : List ℕ) → narrow ws ≡ true → at + total ws ≤ 8 * length s → readIn ws at s ≡ fields ws at s
+unfolding fields
+read-fields [] at s h g = refl
+read-fields (w ∷ ws) at s h g =
+    let n = both (leb w widest) (narrow ws) h in
+    rw (value-inside s at w (leb-true _ _ (n .0)) (omega arith), read-fields ws (at + w) s (n .1) (omega arith))
 
 pub fields-drop : (ws : List ℕ) (k p : ℕ) (s : List ℕ) → fields ws p (drop k s) ≡ fields ws (8 * k + p) s
 unfolding fields

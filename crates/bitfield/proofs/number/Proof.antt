@@ -1,7 +1,7 @@
 -- No bytes write 0; n bytes turned twice are the upper ones of a word (`turned-back`).
 use native.Mathlib.Omega.{arith}
 use mathlib.Core.Path.{_≡_, sym}
-use Rattle.bitfield.proofs.ByBytes.{no-bytes, turned-back}
+use Rattle.bitfield.proofs.ByBytes.{value-none, turned-back}
 use borrow.Author.Needs.{needs}
 use Rattle.bitfield.proofs.number.Statement.{statement}
 use Rattle.bitfield.proofs.number.Tie as tie
@@ -9,7 +9,7 @@ use Rattle.bitfield.proofs.number.Tie as tie
 returns : tie.Need-returns
 returns c =
     let none : c .before .before .args .n ≡ 0 = omega arith in
-    rw none (sym (no-bytes _ _))
+    rw none (sym (value-none _ _))
 
 backwards-requires : tie.Need-backwards-requires
 backwards-requires c κs = search needs
