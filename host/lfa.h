@@ -1,6 +1,7 @@
 /*
  * The live firmware activation agent, as a host links it: a board's description and its record, one event at a time, the log, and
- * three questions that a log answers. The rules are document 01's; C99, and C++ as well. host/c/monitor.c is a monitor to copy.
+ * five questions that a log answers. The rules are document 01's and 02's; C99, and C++ as well. host/c/monitor.c is a monitor to
+ * copy.
  *
  * All that crosses is numbers, arrays of numbers, and structs of these. Whatever they hold, the answer is a stated one: nothing
  * here aborts, allocates or keeps anything between two calls. The library has no data that changes, its code may lie anywhere, and it
@@ -30,6 +31,8 @@
  * - One call at a time for a record: the library takes no lock.
  * - Its CPUs do what an answer says. One that is held waits until a release names it, even one that comes before it waits; and an
  *   activation's work begins only when every held CPU stands and every CPU that is gone is off (host/c/monitor.h).
+ * - It brings the end of every job to lfa_step. A CANCEL that returns 0 while a prime job runs does not end it and lets nobody go:
+ *   the host may stop the job or let it go on, but its report has to come, and only that lets the CPU go that waits for it (-11).
  * - A record that is stored stays with its LFA_ABI and on hosts of this byte order: another library may take its bytes for others.
  *   Board descriptions and logs are the same bytes everywhere.
  *
@@ -63,9 +66,10 @@ extern "C" {
 /*
  * The number of this boundary: it rises with every change of a layout or of what a number means, so with a new kind, state,
  * caller's part, release, code or reason as well, and where a function takes more stack than LFA_STACK_ said. lfa_abi gives the
- * library's. From 1 to 2 the record is the same: one that was stored under 1 is good under 2.
+ * library's. From 1 to 3 the layout of the record is the same: one that was stored under 1 or 2 is good under 3. A library of 1 or 2
+ * does not know LFA_STATE_WITHDRAWN, and refuses a record with it: 9.
  */
-#define LFA_ABI 2
+#define LFA_ABI 3
 
 /* The library's calling convention, where the compiler has others and can be told. */
 #if defined(__GNUC__) && defined(__x86_64__)
@@ -87,6 +91,8 @@ extern "C" {
 #define LFA_STACK_LOG 1024
 #define LFA_STACK_READ_RECORD 1024
 #define LFA_STACK_PREPARED 1024
+#define LFA_STACK_POWERED 1024
+#define LFA_STACK_HELD 1024
 #define LFA_STACK_STARTS 8192
 #define LFA_STACK_WHY 27648
 
@@ -169,7 +175,7 @@ enum lfa_release {
     LFA_RELEASE_BY_ENTRY = 2     /* a set of CPUs, each at its entry address with its context id: see the two tables */
 };
 
-/* The states of a board, in the order of document 01's table of rules. */
+/* The states of a board, in the order of document 01's table of rules. A new state takes the next number. */
 enum lfa_state {
     LFA_STATE_IDLE = 0,
     LFA_STATE_PREPARING = 1, /* a prime job runs */
@@ -179,7 +185,8 @@ enum lfa_state {
     LFA_STATE_TOGETHER = 5,  /* an activate job runs, all powered CPUs held */
     LFA_STATE_ALONE = 6,     /* an activate job runs without rendezvous */
     LFA_STATE_HALF_ACTIVATED = 7,
-    LFA_STATE_DEAD = 8
+    LFA_STATE_DEAD = 8,
+    LFA_STATE_WITHDRAWN = 9  /* a prime job runs whose preparation was cancelled */
 };
 
 /*
@@ -216,8 +223,8 @@ enum lfa_refusal {
 };
 
 /*
- * The reasons that lfa_why gives, each the first rule of document 01 that applies to an ACTIVATE, in document 01's order. A new
- * reason takes the next number.
+ * The reasons that lfa_why gives, each the first rule that applies to an ACTIVATE, in document 01's order; one that came with a later
+ * request has the next number.
  */
 enum lfa_reason {
     LFA_REASON_NONE = 0,             /* refused: there is no reason */
@@ -234,7 +241,8 @@ enum lfa_reason {
     LFA_REASON_BEING_ACTIVATED = 11, /* -2: the component is being activated without rendezvous */
     LFA_REASON_SKIPPED = 12,         /* started, without rendezvous */
     LFA_REASON_HELD = 13,            /* held: CPUs are missing */
-    LFA_REASON_ALL_PRESENT = 14      /* started: all powered CPUs are held */
+    LFA_REASON_ALL_PRESENT = 14,     /* started: all powered CPUs are held */
+    LFA_REASON_WITHDRAWN = 15        /* -7: the component's preparation was cancelled while it ran */
 };
 
 /* ---- The board and its record ---- */
@@ -397,6 +405,13 @@ struct lfa_prepared {
     size_t looked;             /* how many records were looked at, the deciding one included; 0 if refused */
 };
 
+/* The answer of lfa_powered and lfa_held. */
+struct lfa_cpus_at {
+    uint64_t refusal;     /* 0, or 31, 32, 33 */
+    size_t place;         /* as in lfa_prepared */
+    struct lfa_cpus cpus; /* none if refused */
+};
+
 /* The answer of lfa_starts. */
 struct lfa_started {
     uint64_t refusal;         /* 0, or 20 to 25 for the board, or 31, 32, 33 for the log */
@@ -409,7 +424,7 @@ struct lfa_why {
     uint64_t refusal;        /* 0, or 20 to 25 for the board, 31, 32, 33, 35 for the log, or 2, 3, 4 for the caller */
     size_t place;            /* with 31, 32 and 35 the place of the record to blame; else 0 */
     uint64_t reason;         /* an enum lfa_reason; LFA_REASON_NONE if refused */
-    uint64_t component;      /* the component that reasons 2, 3, 5 and 11 name; else 0 */
+    uint64_t component;      /* the component that reasons 2, 3, 5, 11 and 15 name; else 0 */
     struct lfa_cpus missing; /* with LFA_REASON_HELD the powered CPUs that are neither held nor the caller; else none */
 };
 
@@ -485,6 +500,13 @@ LFA_CALL struct lfa_read lfa_read_record(const uint8_t *log, size_t log_length);
 LFA_CALL struct lfa_prepared lfa_prepared(const uint8_t *log, size_t log_length, size_t place);
 
 /*
+ * The CPUs that are powered at a place of a log, and those that are held there, by the log alone. Refusals are as in lfa_prepared.
+ * A log that no agent wrote can switch on a CPU of 64 or more: it is in no set.
+ */
+LFA_CALL struct lfa_cpus_at lfa_powered(const uint8_t *log, size_t log_length, size_t place);
+LFA_CALL struct lfa_cpus_at lfa_held(const uint8_t *log, size_t log_length, size_t place);
+
+/*
  * The component whose rendezvous activation starts if the call is made at a place of a log, from the board description, the
  * log and the call alone. A refusal of the board comes first, with place 0; those of the log are as in lfa_prepared.
  */
@@ -492,8 +514,8 @@ LFA_CALL struct lfa_started lfa_starts(const uint8_t *board, size_t board_length
                                        size_t place, struct lfa_call call);
 
 /*
- * Why an ACTIVATE that is made at a place of a log is refused, held or started: the first rule of document 01 that applies, and for a
- * held call which CPUs it waits for. The log is taken through the rules, from the fresh board that the description is of up to the
+ * Why an ACTIVATE that is made at a place of a log is refused, held or started: the first rule that applies, and for a held
+ * call which CPUs it waits for. The log is taken through the rules, from the fresh board that the description is of up to the
  * place. Refusals of the board and the log come first, as in lfa_starts; then 35 with the place of the first record before that
  * place whose event the rules refuse, or answer with another outcome or word 6; then 2, 3, 4 for the caller.
  */

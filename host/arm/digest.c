@@ -46,10 +46,10 @@ static void take_record(const struct lfa_record *r)
 
 enum { REFUSALS = LFA_REFUSAL_DEPARTS + 1 };
 
-static uint64_t states[LFA_STATE_DEAD + 1], callers[LFA_CALLER_GONE + 1], releases[LFA_RELEASE_BY_ENTRY + 1];
+static uint64_t states[LFA_STATE_WITHDRAWN + 1], callers[LFA_CALLER_GONE + 1], releases[LFA_RELEASE_BY_ENTRY + 1];
 static uint64_t refused_events[REFUSALS], refused_boards[REFUSALS], refused_logs[REFUSALS], refused_starts[REFUSALS];
-static uint64_t refused_reasons[REFUSALS], reasons[LFA_REASON_ALL_PRESENT + 1];
-static uint64_t prepared_places, started_places;
+static uint64_t refused_reasons[REFUSALS], reasons[LFA_REASON_WITHDRAWN + 1];
+static uint64_t prepared_places, started_places, held_places;
 
 #define COUNT(list, at) count(list, sizeof(list) / sizeof *(list), at)
 #define PRINT(list) print(#list, list, sizeof(list) / sizeof *(list))
@@ -201,6 +201,18 @@ static void ask_why(const uint8_t *board, size_t length, size_t place, struct lf
     if (w.refusal == LFA_REFUSAL_NONE) COUNT(reasons, w.reason);
 }
 
+/* The powered CPUs and the held ones. */
+static void ask_cpus(size_t length, size_t place)
+{
+    struct lfa_cpus_at powered = lfa_powered(walked.log, length, place);
+    struct lfa_cpus_at held = lfa_held(walked.log, length, place);
+    TAKE(powered);
+    TAKE(held);
+    COUNT(refused_logs, powered.refusal);
+    COUNT(refused_logs, held.refusal);
+    held_places += held.cpus.bits != 0;
+}
+
 /* The questions to the log, at its end, or at any place of it and one behind; now and then with a damaged board. */
 static void ask(void)
 {
@@ -220,6 +232,7 @@ static void ask(void)
     prepared_places += p.prepared.found;
     started_places += s.started.found;
     ask_why(board, length, place, next.call);
+    ask_cpus(length, place);
 }
 
 /* The same with a log of which one bit is another, and the record of that bit. */
@@ -276,7 +289,8 @@ int main(void)
     PRINT(refused_starts);
     PRINT(refused_reasons);
     PRINT(reasons);
-    printf("places where a component is prepared: %" PRIu64 ", where one starts: %" PRIu64 "\n", prepared_places, started_places);
+    printf("places where a component is prepared: %" PRIu64 ", where one starts: %" PRIu64 ", where CPUs are held: %" PRIu64 "\n",
+           prepared_places, started_places, held_places);
     printf("the running number is %" PRIx64 "\n", number);
     return 0;
 }

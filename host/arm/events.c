@@ -204,6 +204,9 @@ struct lfa_event onward(const struct lfa_record *r)
     case LFA_STATE_IDLE:
         return begin(r);
     case LFA_STATE_PREPARING:
+        if (one_in(8)) return call(r, LFA_FUNCTION_CANCEL, subject, 0);
+        return report(r, LFA_KIND_PRIME_REPORT);
+    case LFA_STATE_WITHDRAWN:
         return report(r, LFA_KIND_PRIME_REPORT);
     case LFA_STATE_HALF_PREPARED:
         return call(r, LFA_FUNCTION_PRIME, subject, 0);

@@ -101,6 +101,11 @@ PLACE(lfa_prepared, place, 8);
 PLACE(lfa_prepared, prepared, 16);
 PLACE(lfa_prepared, looked, 32);
 
+LFA_SIZE(lfa_cpus_at, 24);
+PLACE(lfa_cpus_at, refusal, 0);
+PLACE(lfa_cpus_at, place, 8);
+PLACE(lfa_cpus_at, cpus, 16);
+
 LFA_SIZE(lfa_started, 32);
 PLACE(lfa_started, refusal, 0);
 PLACE(lfa_started, place, 8);

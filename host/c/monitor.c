@@ -16,8 +16,8 @@ uint64_t monitor_start(struct monitor *m, const struct lfa_board *board)
 
 /*
  * How many records it takes until nobody waits: a call of each powered CPU that is still to arrive, and the report. An event is
- * taken only where it leaves room for these. So each of them is taken, since it leaves one less, and so is a CANCEL, which leaves
- * none. (In preparing and alone the report would do; room is kept for more.)
+ * taken only where it leaves room for these. So each of them is taken, since it leaves one less, and so is a CANCEL in gathering,
+ * which leaves none. (In preparing, withdrawn and alone the report would do; room is kept for more.)
  */
 static size_t records_to_release(const struct lfa_record *r)
 {

@@ -63,7 +63,10 @@ void platform_hold(uint64_t cpu);
 /* The CPU is switched off. */
 void platform_switch_off(uint64_t cpu);
 
-/* The job starts beside CPUs that run; its end arrives as a report of the same component. */
+/*
+ * The job starts beside CPUs that run; its end arrives as a report of the same component. So it does where a CANCEL returned 0 in
+ * between (LFA_STATE_WITHDRAWN), whether the job goes on then or is stopped: the CPU that waits for it waits for that report.
+ */
 void platform_prime(uint64_t component);
 
 /*

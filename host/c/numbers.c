@@ -1,7 +1,8 @@
 /*
  * Every number of lfa.h, as the library has it. A run of a board with 64 CPUs and 32 components through the monitor of monitor.c,
- * with every function, code, flag and state, each refusal of an event, and CPU 63; then each reason, each other refusal, and the
- * limits. What comes from the library is printed in the header's words, and numbers.stdout has the words that document 01 gives for it.
+ * with every function, code, flag and state, each refusal of an event, and CPU 63; then the CPUs that the log tells, each reason,
+ * each other refusal, and the limits. What comes from the library is printed in the header's words, and numbers.stdout has the
+ * words that documents 01 and 02 give for it.
  */
 #include <inttypes.h>
 #include <stdio.h>
@@ -55,7 +56,7 @@ static const struct lfa_event RUN[] = {
     ACTIVATED(SKIPS, LFA_CODE_AGAIN),
     CALL(63, ACTIVATE, .x1 = SKIPS, .x2 = LFA_SKIP),
     ACTIVATED(SKIPS, LFA_CODE_DONE),
-    /* a rendezvous that is cancelled, one that is postponed, one that is done by reset, and one that fails for good */
+    /* a rendezvous that is cancelled, one that is postponed, and one that is done by reset */
     IMAGE(RESETS, 5),
     CALL(0, GET_INFO, .x1 = 0),
     CALL(0, GET_INVENTORY, .x1 = RESETS),
@@ -74,6 +75,15 @@ static const struct lfa_event RUN[] = {
     CALL(0, ACTIVATE, .x1 = RESETS, .x3 = 0x1200, .x4 = 0xA0),
     CALL(63, ACTIVATE, .x1 = RESETS, .x3 = 0x1100, .x4 = 0xA3F),
     ACTIVATED(RESETS, LFA_CODE_BY_RESET),
+    /* a preparation that is withdrawn, and a rendezvous that fails for good */
+    IMAGE(SKIPS, 5),
+    CALL(63, PRIME, .x1 = SKIPS),
+    CALL(0, CANCEL, .x1 = RESETS),
+    CALL(0, CANCEL, .x1 = SKIPS),
+    CALL(0, CANCEL, .x1 = SKIPS),
+    CALL(0, PRIME, .x1 = SKIPS),
+    IMAGE(SKIPS, 6),
+    PRIMED(SKIPS, LFA_CODE_DONE),
     IMAGE(RESETS, 5),
     CALL(0, PRIME, .x1 = RESETS),
     PRIMED(RESETS, LFA_CODE_DONE),
@@ -82,6 +92,9 @@ static const struct lfa_event RUN[] = {
     ACTIVATED(RESETS, FAILED_FOR_GOOD),
     {.kind = NO_KIND},
 };
+
+/* Places of the run's log: where a preparation was withdrawn, where its report has come, and its end. */
+enum { WITHDRAWN = 48, REPORTED = 51, END = 57 };
 
 /* Asked at a place of the run's log: why an ACTIVATE of this CPU would get its answer. */
 static const struct question {
@@ -102,13 +115,14 @@ static const struct question {
     {17, {.cpu = 0, .x1 = SKIPS, .x2 = LFA_SKIP}},
     {18, {.cpu = 0, .x1 = SKIPS, .x2 = LFA_SKIP}},
     {18, {.cpu = 0, .x1 = SKIPS}},
-    /* alone, ready to reset, dead, and past the end */
+    /* alone, ready to reset, withdrawn, dead, and past the end */
     {22, {.cpu = 0, .x1 = SKIPS}},
     {22, {.cpu = 0, .x1 = SKIPS, .x2 = LFA_SKIP}},
     {31, {.cpu = 0, .x1 = RESETS, .x2 = LFA_SKIP}},
     {31, {.cpu = 0, .x1 = RESETS, .x3 = 0x2000}},
-    {50, {.cpu = 0, .x1 = RESETS}},
-    {51, {.cpu = 0, .x1 = RESETS}},
+    {WITHDRAWN, {.cpu = 0, .x1 = SKIPS}},
+    {END, {.cpu = 0, .x1 = RESETS}},
+    {END + 1, {.cpu = 0, .x1 = RESETS}},
 };
 
 static struct lfa_board large_board(void)
@@ -197,6 +211,17 @@ static void ask_why(const struct monitor *m, size_t place, struct lfa_activate a
     print_why(&w);
 }
 
+/* The powered CPUs and the held ones, by the log. */
+static void ask_cpus(const struct monitor *m, size_t place)
+{
+    struct lfa_cpus_at powered = lfa_powered(m->log, m->logged, place);
+    struct lfa_cpus_at held = lfa_held(m->log, m->logged, place);
+    printf("powered at place %zu:", place);
+    print_cpus_at(&powered);
+    printf("held at place %zu:", place);
+    print_cpus_at(&held);
+}
+
 /* Every reason; then a log in which VERSION returned something else. */
 static void reasons(struct monitor *m)
 {
@@ -223,6 +248,9 @@ int main(void)
     struct lfa_board board = large_board();
     if (monitor_start(&m, &board) != LFA_REFUSAL_NONE) return 1;
     for (size_t i = 0; i < sizeof RUN / sizeof *RUN; i++) tell(&m, &RUN[i]);
+    ask_cpus(&m, WITHDRAWN);
+    ask_cpus(&m, REPORTED);
+    ask_cpus(&m, END + 1);
     reasons(&m);
     events(&m);
     boards(&m);

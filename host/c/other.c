@@ -43,6 +43,17 @@ struct lfa_prepared lfa_prepared(const uint8_t *log, size_t log_length, size_t p
     return (struct lfa_prepared){.refusal = LFA_REFUSAL_NONE};
 }
 
+struct lfa_cpus_at lfa_powered(const uint8_t *log, size_t log_length, size_t place)
+{
+    (void)log, (void)log_length, (void)place;
+    return (struct lfa_cpus_at){.refusal = LFA_REFUSAL_NONE};
+}
+
+struct lfa_cpus_at lfa_held(const uint8_t *log, size_t log_length, size_t place)
+{
+    return lfa_powered(log, log_length, place);
+}
+
 struct lfa_started lfa_starts(const uint8_t *board, size_t board_length, const uint8_t *log, size_t log_length, size_t place,
                               struct lfa_call call)
 {

@@ -16,6 +16,7 @@ static const char *const STATES[] = {
     [LFA_STATE_ALONE] = "alone",
     [LFA_STATE_HALF_ACTIVATED] = "half-activated",
     [LFA_STATE_DEAD] = "dead",
+    [LFA_STATE_WITHDRAWN] = "withdrawn",
 };
 
 static const char *const KINDS[] = {
@@ -77,6 +78,7 @@ static const char *const REASONS[] = {
     [LFA_REASON_SKIPPED] = "started: skipped",
     [LFA_REASON_HELD] = "held: CPUs are missing",
     [LFA_REASON_ALL_PRESENT] = "started: all present",
+    [LFA_REASON_WITHDRAWN] = "returned -7: it was withdrawn",
 };
 
 #define WORD(words, number) word(words, sizeof(words) / sizeof *(words), number)
@@ -125,6 +127,13 @@ void print_refusal(uint64_t refusal)
     else printf(" refused %" PRIu64 ", %s;", refusal, WORD(REFUSALS, refusal));
 }
 
+static void print_cpus(struct lfa_cpus cpus)
+{
+    for (uint64_t cpu = 0; cpu < LFA_MOST_CPUS; cpu++)
+        if (cpus.bits >> cpu & 1) printf(" %" PRIu64, cpu);
+    printf("\n");
+}
+
 void print_why(const struct lfa_why *w)
 {
     if (w->refusal != LFA_REFUSAL_NONE) {
@@ -133,9 +142,17 @@ void print_why(const struct lfa_why *w)
         return;
     }
     printf(" %s; component %" PRIu64 ", CPUs", WORD(REASONS, w->reason), w->component);
-    for (uint64_t cpu = 0; cpu < LFA_MOST_CPUS; cpu++)
-        if (w->missing.bits >> cpu & 1) printf(" %" PRIu64, cpu);
-    printf("\n");
+    print_cpus(w->missing);
+}
+
+void print_cpus_at(const struct lfa_cpus_at *t)
+{
+    if (t->refusal != LFA_REFUSAL_NONE) {
+        print_refusal(t->refusal);
+        printf(" place %zu,", t->place);
+    }
+    printf(" CPUs");
+    print_cpus(t->cpus);
 }
 
 void print_record(const struct lfa_log_record *r)

@@ -13,6 +13,9 @@ void print_refusal(uint64_t refusal);
 /* Prints what lfa_why says of an ACTIVATE: its reason, with the component and the CPUs that it names, or a refusal with its place. */
 void print_why(const struct lfa_why *w);
 
+/* Prints a set of CPUs that the log tells, after a refusal with its place. */
+void print_cpus_at(const struct lfa_cpus_at *t);
+
 /* Prints one record of the log. */
 void print_record(const struct lfa_log_record *r);
 

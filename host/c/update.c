@@ -64,6 +64,18 @@ static const struct lfa_event LAST_PRIME[] = {
     {.kind = LFA_KIND_CALL, .call = {.cpu = 0, .x0 = LFA_FUNCTION_ACTIVATE, .x1 = OTHER}},
 };
 
+/* A preparation that is withdrawn with room for its end, and with none for a second CANCEL. */
+static const struct lfa_event SWITCH_ON[] = {
+    {.kind = LFA_KIND_CALL, .call = {.cpu = 0, .x0 = LFA_FUNCTION_CPU_ON, .x1 = 1, .x2 = 0x1000, .x3 = 0xC1}},
+};
+
+static const struct lfa_event LAST_CANCEL[] = {
+    {.kind = LFA_KIND_CALL, .call = {.cpu = 0, .x0 = LFA_FUNCTION_PRIME, .x1 = OTHER}},
+    {.kind = LFA_KIND_CALL, .call = {.cpu = 1, .x0 = LFA_FUNCTION_CANCEL, .x1 = OTHER}},
+    {.kind = LFA_KIND_CALL, .call = {.cpu = 1, .x0 = LFA_FUNCTION_CANCEL, .x1 = OTHER}},
+    {.kind = LFA_KIND_PRIME_REPORT, .report = {.component = OTHER, .code = LFA_CODE_DONE}},
+};
+
 #define TELL_ALL(m, events) tell_all(m, events, sizeof(events) / sizeof *(events))
 
 static void tell_all(struct monitor *m, const struct lfa_event *events, size_t count)
@@ -118,5 +130,9 @@ int main(void)
     if (monitor_start(&m, &BOARD) != LFA_REFUSAL_NONE) return 1;
     fill(&m, 2);
     TELL_ALL(&m, LAST_PRIME);
+    if (monitor_start(&m, &BOARD) != LFA_REFUSAL_NONE) return 1;
+    TELL_ALL(&m, SWITCH_ON);
+    fill(&m, 4);
+    TELL_ALL(&m, LAST_CANCEL);
     return answered && all_stood() ? 0 : 1;
 }

@@ -34,10 +34,10 @@ use Rattle.rules.specs.declared.Image.{Image}
 use Rattle.rules.specs.Calls.{arrivalOf}
 use Rattle.rules.specs.declared.Report.{Report}
 use Rattle.rules.specs.declared.Waking.{Waking}
-use Rattle.rules.proofs.Facts.{Primes, Skips, Joins, TurnsOff, TurnsOn, EndsPrime, EndsActivate, NotesImage, Facts, again-alone}
+use Rattle.rules.proofs.Facts.{Primes, Skips, Joins, Withdraws, TurnsOff, TurnsOn, EndsPrime, EndsActivate, NotesImage, Facts, again-alone}
 use Rattle.rules.proofs.Guards.{decide-guard}
-use Rattle.rules.proofs.States.{PowerFree, Rests, prime-rests, skip-rests, skip-subject, gather-subject, priming-subject, activating-subject, free-apart}
-use Rattle.agent.specs.Perform.{refusedOf, acceptedOf, informedOf, joinedOf, settledOf, poweredOf, afterPrime, afterActivate, isDone, imagedOf, forgottenOf, endedOf, performOf}
+use Rattle.rules.proofs.States.{PowerFree, Rests, prime-rests, skip-rests, skip-subject, gather-subject, priming-subject, priming-holds, activating-subject, free-apart}
+use Rattle.agent.specs.Perform.{refusedOf, acceptedOf, informedOf, joinedOf, settledOf, withdrawnOf, poweredOf, afterPrime, afterActivate, isDone, imagedOf, forgottenOf, endedOf, performOf}
 use Rattle.agent.specs.Step.{stepOf, stepped, after}
 use Rattle.agent.proofs.Laws.{one-held, apart-held, places-put, joined-others, joined-entry, gather-kept, subject-as, subject-optional, other-image, prime-ends, activate-ends, done-idle}
 
@@ -153,6 +153,20 @@ module _ (r : Record) (w : WellFormed r) (z : Sized r) where
       prime-ends (λ (s : State). WellFormed (settledOf r s)) p (λ q. settled-kept (Ready (p .component)) same (refl, refl))
       (λ q. settled-kept (HalfPrepared (p .component)) same (refl, refl)) (λ t u. idle-kept)
 
+  -- a preparation is withdrawn: who is held for it stays so
+  withdrawn-kept : (e : Event) (id : ℕ) → Withdraws r e id → WellFormed (withdrawnOf r id)
+  unfolding withdrawnOf stateStands heldStand
+  withdrawn-kept e id g =
+      let is = priming-holds (r .board) (g .state) in
+      record {
+        board = w .board;
+        powered = w .powered;
+        images = w .images;
+        state = still false id (priming-subject (g .state)) refl;
+        held = rw (is .0) at (w .held);
+        entries = rw (is .1) at (w .entries);
+      }
+
   -- other CPUs are powered, the held ones among them, in a state whose power calls are free
   powered-kept : (on : CpuSet) → PowerFree (r .state) → poweredStand (r .board .cpus) on ≡ true
       → ((j : ℕ) → hasOf (r .held) j ≡ true → hasOf (r .on) j ≡ true → hasOf on j ≡ true) → WellFormed (poweredOf r on)
@@ -246,6 +260,10 @@ settled-sized : (r : Record) (s : State) → Sized r → Sized (settledOf r s)
 unfolding settledOf
 settled-sized r s z = record { pending = z .pending; version = z .version; entry = refl; context = refl }
 
+withdrawn-sized : (r : Record) (id : ℕ) → Sized r → Sized (withdrawnOf r id)
+unfolding withdrawnOf
+withdrawn-sized r id z = record { pending = z .pending; version = z .version; entry = z .entry; context = z .context }
+
 powered-sized : (r : Record) (on : CpuSet) → Sized r → Sized (poweredOf r on)
 unfolding poweredOf
 powered-sized r on z = record { pending = z .pending; version = z .version; entry = z .entry; context = z .context }
@@ -296,9 +314,11 @@ performed r e (move.Gather a) w z g = (gathering-kept r w z e a g, joined-sized 
 performed r e (move.StartTogether a) w z g = (together-kept r w z e a g, joined-sized r _ a z)
 performed r e (move.StartAlone a) w z g = (skip-kept r w z e a g, joined-sized r _ a z)
 performed r e move.ToIdle w z g = (idle-kept r w z, settled-sized r Idle z)
+performed r e (move.Withdraw id) w z g = (withdrawn-kept r w z e id g, withdrawn-sized r id z)
 performed r e (move.PowerOff cpu) w z g = (off-kept r w z e cpu g, powered-sized r _ z)
 performed r e (move.PowerOn x) w z g = (on-kept r w z e x g, powered-sized r _ z)
 performed r e (move.EndPrime p) w z g = (end-prime-kept r w z e p g, settled-sized r (afterPrime p) z)
+performed r e move.EndWithdrawn w z g = (idle-kept r w z, settled-sized r Idle z)
 performed r e (move.EndActivate p) w z g = ended-kept r e p w z g
 performed r e (move.NoteImage i) w z g = (image-kept r e i w z g, imaged-sized r (i .component) true (i .version) z)
 

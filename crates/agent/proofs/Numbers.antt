@@ -14,13 +14,14 @@ use Rattle.board_record.specs.declared.Record.{Record}
 use Rattle.rules.specs.Statuses.{minusOf, numberOf}
 use Rattle.rules.specs.Decide.{decideOf}
 use Rattle.rules.specs.Moves as moves
-use Rattle.rules.specs.Moves.{toldAs, primeStatus, activateStatus, againOf, numbersOf}
+use Rattle.rules.specs.Moves.{toldAs, statusOf, activateStatus, againOf, numbersOf}
 use Rattle.rules.specs.declared.Event.{Event}
 use Rattle.rules.specs.declared.Move.{Move}
 use Rattle.rules.specs.declared.Move.the-variants as move
 use Rattle.rules.proofs.Facts.{Facts}
 use Rattle.rules.proofs.Guards.{decide-guard}
 use Rattle.rules.proofs.Moves.{number-some, decided}
+use Rattle.rules.proofs.States.{priming-is}
 use Rattle.agent.specs.Perform.{refusedOf, acceptedOf, freedOf, reportedOf, releasedOf, performOf}
 use Rattle.agent.specs.Step.{stepOf}
 use Rattle.agent.specs.Numbers.{withStatus, freedBy, Said, refusedWith, acceptedWith, saidOf, releasedWith, releaseFor, Parts, Answers}
@@ -35,8 +36,8 @@ pub record Agrees (s : Said) (m : moves.Numbers) : Type 0 where
   pub caller : s .caller ≡ pick (oneOf (m .outcome) callOutcomes) (m .outcome) 0
   pub given : m .given ≡ pick (eqb (m .outcome) released) (s .freed .x0) (s .returned .x0)
 
-reported-status : (held : CpuSet) (code : ℕ) → primeStatus code ≡ freedBy (reportedOf held code) .x0
-unfolding primeStatus reportedOf
+reported-status : (held : CpuSet) (code : ℕ) → statusOf code ≡ freedBy (reportedOf held code) .x0
+unfolding statusOf reportedOf
 reported-status held code = go (eqb code 1)
   where
     go : (again : Bool) → pick again 0 (minusOf code) ≡ freedBy (pick again (freedOf held 0 1) (freedOf held (minusOf code) 0)) .x0
@@ -47,7 +48,7 @@ released-status : (held : CpuSet) (code : ℕ) → activateStatus code ≡ freed
 unfolding activateStatus releasedOf
 released-status held code = go (eqb code byReset)
   where
-    go : (reset : Bool) → pick reset 0 (primeStatus code) ≡ freedBy (pick reset (release.Resumed held) (reportedOf held code)) .x0
+    go : (reset : Bool) → pick reset 0 (statusOf code) ≡ freedBy (pick reset (release.Resumed held) (reportedOf held code)) .x0
     go true = refl
     go false = reported-status held code
 
@@ -61,16 +62,18 @@ performed-says r (move.Gather a) = record { refusal = refl; caller = refl; given
 performed-says r (move.StartTogether a) = record { refusal = refl; caller = refl; given = refl }
 performed-says r (move.StartAlone a) = record { refusal = refl; caller = refl; given = refl }
 performed-says r move.ToIdle = record { refusal = refl; caller = refl; given = refl }
+performed-says r (move.Withdraw id) = record { refusal = refl; caller = refl; given = refl }
 performed-says r (move.PowerOff cpu) = record { refusal = refl; caller = refl; given = refl }
 performed-says r (move.PowerOn w) = record { refusal = refl; caller = refl; given = refl }
 performed-says r (move.EndPrime p) = record { refusal = refl; caller = refl; given = reported-status (r .held) (p .code) }
+performed-says r move.EndWithdrawn = record { refusal = refl; caller = refl; given = refl }
 performed-says r (move.EndActivate p) = record { refusal = refl; caller = refl; given = released-status (r .held) (p .code) }
 performed-says r (move.NoteImage i) = record { refusal = refl; caller = refl; given = refl }
 
 -- ---- what is accepted has its parts
 
-prime-said : (held : CpuSet) (code : ℕ) → saidOf (Accepted (record { caller = caller.Nothing; release = reportedOf held code })) ≡ releasedWith withStatus held (primeStatus code) (againOf code)
-unfolding primeStatus reportedOf acceptedWith releasedWith
+prime-said : (held : CpuSet) (code : ℕ) → saidOf (Accepted (record { caller = caller.Nothing; release = reportedOf held code })) ≡ releasedWith withStatus held (statusOf code) (againOf code)
+unfolding statusOf reportedOf acceptedWith releasedWith
 prime-said held code = go (eqb code 1)
   where
     go : (again : Bool) → acceptedWith (record { caller = caller.Nothing; release = pick again (freedOf held 0 1) (freedOf held (minusOf code) 0) }) ≡ releasedWith withStatus held (pick again 0 (minusOf code)) (pick again 1 0)
@@ -91,9 +94,11 @@ parts-said r e (move.Gather a) g z = rw (g .by .event)
 parts-said r e (move.StartTogether a) g z = rw (g .by .event)
 parts-said r e (move.StartAlone a) g z = rw (g .by .event)
 parts-said r e move.ToIdle g z = rw (g .by .event)
+parts-said r e (move.Withdraw id) g z = rw (g .by .event)
 parts-said r e (move.PowerOff cpu) g z = rw (g .by .event)
 parts-said r e (move.PowerOn w) g z = rw (g .by .event)
-parts-said r e (move.EndPrime p) g z = rw (g .event) (prime-said (r .held) (p .code))
+parts-said r e (move.EndPrime p) g z = rw (g .event, priming-is (g .running)) (prime-said (r .held) (p .code))
+parts-said r e move.EndWithdrawn g z = rw (g .event, priming-is (g .running))
 parts-said r e (move.EndActivate p) g z = rw (g .event) (activate-said (r .held) (p .code))
 parts-said r e (move.NoteImage i) g z = rw (g .event)
 

@@ -47,9 +47,11 @@ refused-is r (move.Gather a) x e = no-answer _ x e
 refused-is r (move.StartTogether a) x e = no-answer _ x e
 refused-is r (move.StartAlone a) x e = no-answer _ x e
 refused-is r move.ToIdle x e = no-answer _ x e
+refused-is r (move.Withdraw id) x e = no-answer _ x e
 refused-is r (move.PowerOff cpu) x e = no-answer _ x e
 refused-is r (move.PowerOn w) x e = no-answer _ x e
 refused-is r (move.EndPrime p) x e = no-answer _ x e
+refused-is r move.EndWithdrawn x e = no-answer _ x e
 refused-is r (move.EndActivate p) x e = no-answer _ x e
 refused-is r (move.NoteImage i) x e = no-answer _ x e
 

@@ -14,7 +14,7 @@ use Rattle.rules.specs.declared.Move.the-variants as move
 use Rattle.rules.proofs.Facts.{Facts}
 use Rattle.rules.proofs.Guards.{decide-guard}
 use Rattle.rules.proofs.States.{PowerFree}
-use Rattle.agent.specs.Perform.{refusedOf, acceptedOf, informedOf, imagedOf, joinedOf, settledOf, poweredOf, isDone, endedOf, performOf}
+use Rattle.agent.specs.Perform.{refusedOf, acceptedOf, informedOf, imagedOf, joinedOf, settledOf, withdrawnOf, poweredOf, isDone, endedOf, performOf}
 use Rattle.agent.specs.Step.{stepOf, stepped, after}
 
 -- the board stays; and so do the powered CPUs, or else power calls are free and the state stays
@@ -23,7 +23,7 @@ pub record Stays (r next : Record) : Type 0 where
   pub powered : (next .on ≡ r .on) ⊎ (PowerFree (r .state) × (next .state ≡ r .state))
 
 performed-stays : (r : Record) (e : Event) (m : Move) → Facts r e m → Stays r (performOf r m .rec)
-unfolding refusedOf acceptedOf informedOf imagedOf joinedOf settledOf poweredOf endedOf
+unfolding refusedOf acceptedOf informedOf imagedOf joinedOf settledOf withdrawnOf poweredOf endedOf
 performed-stays r e (move.Refuse x) g = record { board = refl; powered = inl refl }
 performed-stays r e (move.Return x) g = record { board = refl; powered = inl refl }
 performed-stays r e move.NoteInfo g = record { board = refl; powered = inl refl }
@@ -32,9 +32,11 @@ performed-stays r e (move.Gather a) g = record { board = refl; powered = inl ref
 performed-stays r e (move.StartTogether a) g = record { board = refl; powered = inl refl }
 performed-stays r e (move.StartAlone a) g = record { board = refl; powered = inl refl }
 performed-stays r e move.ToIdle g = record { board = refl; powered = inl refl }
+performed-stays r e (move.Withdraw id) g = record { board = refl; powered = inl refl }
 performed-stays r e (move.PowerOff cpu) g = record { board = refl; powered = inr (g .power, refl) }
 performed-stays r e (move.PowerOn x) g = record { board = refl; powered = inr (g .power, refl) }
 performed-stays r e (move.EndPrime p) g = record { board = refl; powered = inl refl }
+performed-stays r e move.EndWithdrawn g = record { board = refl; powered = inl refl }
 performed-stays r e (move.EndActivate p) g =
     pick-cases (Stays r) (isDone (p .code)) _ _ (λ t. record { board = refl; powered = inl refl }) (λ t. record { board = refl; powered = inl refl })
 performed-stays r e (move.NoteImage i) g = record { board = refl; powered = inl refl }

@@ -26,7 +26,8 @@ use Rattle.rules.specs.Reports.{activateAllows, primeReportOf, activateReportOf
 use Rattle.rules.specs.Decide.{decideOf}
 use Rattle.rules.specs.declared.Event.{Event}
 use Rattle.rules.specs.declared.Event.the-variants as event
-use Rattle.agent.specs.Perform.{refusedOf, acceptedOf, informedOf, joinedOf, settledOf, poweredOf, reportedOf, afterPrime, afterActivate, imagedOf, isDone, endedOf, releasedOf}
+use Rattle.agent.specs.Perform.{refusedOf, acceptedOf, informedOf, joinedOf, settledOf, withdrawnOf, poweredOf, reportedOf, afterPrime, afterActivate, imagedOf, isDone, endedOf, releasedOf}
+use Rattle.agent.specs.Numbers.{Said, saidOf, refusedWith, acceptedWith}
 use Rattle.agent.specs.Step.{stepOf, stepped, after}
 use Rattle.agent.specs.declared.Caller.{Caller}
 use Rattle.agent.specs.declared.Caller.the-variants as caller
@@ -140,8 +141,28 @@ activates code = ready 0 ++ activate 0 0 ∷ activated 0 code ∷ []
 abbrev skips : ℕ → List Event
 skips code = ready 1 ++ call 0 activateNumber 1 1 0 0 ∷ activated 1 code ∷ []
 
+-- component 1 withdrawn by CPU 2 while it is prepared for CPU 0
+abbrev cancel : ℕ → ℕ → Event
+cancel cpu c = call cpu cancelNumber c 0 0 0
+
+abbrev preparing : List Event
+preparing = switchOn 0 2 ∷ image 1 5 ∷ prime 1 ∷ []
+
+abbrev withdrawn : List Event
+withdrawn = preparing ++ cancel 2 1 ∷ []
+
+-- whom an event releases, with X0 and X1
+abbrev frees : List Event → Event → Said
+frees es e = saidOf (stepped (after (freshOf board) es) e .outcome)
+
+-- with this code it leads to idle, and CPU 0 goes on with -11 and 0
+abbrev isGivenUp : ℕ → Bool
+isGivenUp code =
+    let s = frees withdrawn (primed 1 code) in
+    sameOf (s .freed .cpus) (onlyOf 0) && (eqb (s .freed .x0) (2 ^ 64 - 11) && (eqb (s .freed .x1) 0 && leads (withdrawn ++ primed 1 code ∷ []) 0))
+
 unfoldable pub examples : List Bool
-unfolding allBelow firsts bit tally room hasOf noneOf onlyOf unionOf lessOf belowOf sameOf countOf numberedOf goodEntry withinLimit judgedOf writableOf boardStands freshOf poweredStand imageStands imagesStand subjectStands stateStands heldStand entryStands entriesStand workStands restStands wellFormed minusOf isCapable decodeOf returned featuresOf infoOf lowestFirst describedOf inventoryOf arrivalOf mayPrime tryPrimeOf trySameOf skipRight fieldsRight entryRight joinOf tryActivateOf cancelOf offFree onOf answerOf callOf isPrimeCode isActivateCode activateAllows primeReportOf activateReportOf imageOf decideOf refusedOf acceptedOf informedOf joinedOf settledOf poweredOf reportedOf afterPrime afterActivate imagedOf isDone endedOf releasedOf stepOf
+unfolding allBelow firsts bit tally room hasOf noneOf onlyOf unionOf lessOf belowOf sameOf countOf numberedOf goodEntry withinLimit judgedOf writableOf boardStands freshOf poweredStand imageStands imagesStand subjectStands stateStands heldStand entryStands entriesStand workStands restStands wellFormed minusOf isCapable decodeOf returned featuresOf infoOf lowestFirst describedOf inventoryOf arrivalOf mayPrime tryPrimeOf trySameOf skipRight fieldsRight entryRight joinOf tryActivateOf cancelOf offFree onOf answerOf callOf isPrimeCode isActivateCode activateAllows primeReportOf activateReportOf imageOf decideOf refusedOf acceptedOf informedOf joinedOf settledOf withdrawnOf poweredOf reportedOf afterPrime afterActivate imagedOf isDone endedOf releasedOf stepOf acceptedWith refusedWith
 examples =
     -- Bench 1 and 2: a word that names no function, and FEATURES of one of PSCI's
     says [] (call 0 0xC40002E7 0 0 0 0) (2 ^ 64 - 1)
@@ -193,6 +214,31 @@ examples =
     ∷ leads (activates 9) 0
     ∷ pends (activates 9) 0
     ∷ leads (skips 1) 7
+    -- a withdrawn preparation: another id, then nobody released and the caller held; again; PRIME, ACTIVATE, CPU_ON, CPU_OFF
+    ∷ says preparing (cancel 2 0) (2 ^ 64 - 8)
+    ∷ says preparing (cancel 2 1) 0
+    ∷ sameOf (frees preparing (cancel 2 1) .freed .cpus) noneOf
+    ∷ leads withdrawn 9
+    ∷ pends withdrawn 1
+    ∷ sameOf (after (freshOf board) withdrawn .held) (onlyOf 0)
+    ∷ says withdrawn (cancel 2 0) (2 ^ 64 - 8)
+    ∷ says withdrawn (cancel 2 1) 0
+    ∷ leads (withdrawn ++ cancel 2 1 ∷ []) 9
+    ∷ says withdrawn (call 2 primeNumber 1 0 0 0) (2 ^ 64 - 2)
+    ∷ says withdrawn (activate 2 1) (2 ^ 64 - 7)
+    ∷ says withdrawn (switchOn 2 3) 0
+    ∷ same (answer withdrawn (call 2 offNumber 0 0 0 0)) (5 ∷ [])
+    -- its report, whatever the code that prime allows
+    ∷ isGivenUp 0
+    ∷ isGivenUp 1
+    ∷ isGivenUp 3
+    ∷ isGivenUp 4
+    ∷ isGivenUp 6
+    ∷ isGivenUp 11
+    ∷ pends (withdrawn ++ primed 1 0 ∷ []) 1
+    ∷ refuses withdrawn (primed 1 2) 6
+    ∷ refuses withdrawn (primed 0 0) 5
+    ∷ refuses withdrawn (image 1 6) 8
     -- every refusal of an event
     ∷ same (answered (stepOf (freshOf board) info 3 4 .outcome)) (0 ∷ 1 ∷ [])
     ∷ same (answered (stepOf (freshOf board) info 4 3 .outcome)) (0 ∷ 1 ∷ [])

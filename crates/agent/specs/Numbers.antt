@@ -12,7 +12,7 @@ use Rattle.cpuset.specs.Set.{noneOf}
 use Rattle.cpuset.specs.declared.CpuSet.{CpuSet}
 use Rattle.board_record.specs.declared.Record.{Record}
 use Rattle.rules.specs.Statuses.{numberOf}
-use Rattle.rules.specs.Moves.{primeStatus, activateStatus, againOf, eventRows}
+use Rattle.rules.specs.Moves.{primeStatus, primeAgain, activateStatus, againOf, eventRows}
 use Rattle.rules.specs.declared.Event.{Event}
 use Rattle.rules.specs.declared.Event.the-variants as event
 use Rattle.rules.specs.declared.Registers.{Registers}
@@ -107,10 +107,10 @@ abbrev pub releaseFor : ℕ → ℕ
 releaseFor code = pick (eqb code byReset) byEntry withStatus
 
 -- a call has one of its outcomes (Packed 8), and other events no caller (Events 4): a report releases the held CPUs with the
--- status that it says, and an image nobody
+-- status that it says, or that of a withdrawn preparation, and an image nobody
 abbrev pub Parts : Record → Event → Said → Type 0
 Parts r (event.Call call) s = oneOf (s .caller) callOutcomes ≡ true
-Parts r (event.Prime p) s = s ≡ releasedWith withStatus (r .held) (primeStatus (p .code)) (againOf (p .code))
+Parts r (event.Prime p) s = s ≡ releasedWith withStatus (r .held) (primeStatus (r .state) (p .code)) (primeAgain (r .state) (p .code))
 Parts r (event.Activate p) s = s ≡ releasedWith (releaseFor (p .code)) (r .held) (activateStatus (p .code)) (againOf (p .code))
 Parts r (event.Image i) s = s ≡ releasedWith nobody noneOf 0 0
 

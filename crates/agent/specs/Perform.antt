@@ -12,8 +12,8 @@ use Rattle.board.specs.Description.{mostCpus}
 use Rattle.board_record.specs.Record.{isGathering}
 use Rattle.board_record.specs.declared.Record.{Record}
 use Rattle.board_record.specs.declared.State.{State}
-use Rattle.board_record.specs.declared.State.the-variants.{Idle, Preparing, HalfPrepared, Ready, Gathering, Together, Alone, HalfActivated, Dead}
-use Rattle.rules.specs.Statuses.{minusOf}
+use Rattle.board_record.specs.declared.State.the-variants.{Idle, Preparing, HalfPrepared, Ready, Gathering, Together, Alone, HalfActivated, Dead, Withdrawn}
+use Rattle.rules.specs.Statuses.{minusOf, cancelledStatus}
 use Rattle.rules.specs.declared.Arrival.{Arrival}
 use Rattle.rules.specs.declared.Image.{Image}
 use Rattle.rules.specs.declared.Refusal.{Refusal}
@@ -110,12 +110,33 @@ settledOf r s = record {
 abbrev pub freedOf : CpuSet → ℕ → ℕ → Release
 freedOf cpus x0 x1 = release.Returned (record { cpus = cpus; x0 = x0; x1 = x1 })
 
--- ---- CANCEL: who waits "From gathering" gets -11 (Calls 28, H)
+-- ---- CANCEL: with what those go on whose wait it ended
+abbrev pub calledOff : CpuSet → Release
+calledOff held = freedOf held cancelledStatus 0
+
+-- who waits "From gathering" gets -11 (Calls 28, H)
 abbrev pub cancelledOf : Record → Release
-cancelledOf r = pick (isGathering (r .state)) (freedOf (r .held) (minusOf 11) 0) release.Nobody
+cancelledOf r = pick (isGathering (r .state)) (calledOff (r .held)) release.Nobody
 
 abbrev pub toIdleOf : Record → Stepped
 toIdleOf r = acceptedOf (settledOf r Idle) (successOf 0) (cancelledOf r)
+
+-- "the state becomes withdrawn" (request 3); whoever is held stays so
+unfoldable pub withdrawnOf : Record → ℕ → Record
+withdrawnOf r id = record {
+  board = r .board;
+  pending = r .pending;
+  version = r .version;
+  state = Withdrawn id;
+  on = r .on;
+  held = r .held;
+  entry = r .entry;
+  context = r .context;
+  informed = r .informed;
+}
+
+abbrev pub withdrawOf : Record → ℕ → Stepped
+withdrawOf r id = acceptedOf (withdrawnOf r id) (successOf 0) release.Nobody
 
 -- ---- CPU_OFF, CPU_ON
 unfoldable pub poweredOf : Record → CpuSet → Record
@@ -149,6 +170,10 @@ afterPrime p = pick (eqb (p .code) 0) (Ready (p .component)) (pick (eqb (p .code
 
 abbrev pub endPrimeOf : Record → Report → Stepped
 endPrimeOf r p = acceptedOf (settledOf r (afterPrime p)) caller.Nothing (reportedOf (r .held) (p .code))
+
+-- a withdrawn preparation "leads to idle", whatever its code (request 3)
+abbrev pub endWithdrawnOf : Record → Stepped
+endWithdrawnOf r = acceptedOf (settledOf r Idle) caller.Nothing (calledOff (r .held))
 
 -- the state after an activate report (Reports 5 and 7 to 10)
 unfoldable pub afterActivate : Report → State
@@ -185,8 +210,10 @@ performOf r (move.Gather a) = heldOf r (Gathering (a .component)) a caller.Held
 performOf r (move.StartTogether a) = heldOf r (Together (a .component)) a caller.ActivationStarted
 performOf r (move.StartAlone a) = heldOf r (Alone (a .component)) a caller.ActivationStarted
 performOf r move.ToIdle = toIdleOf r
+performOf r (move.Withdraw id) = withdrawOf r id
 performOf r (move.PowerOff cpu) = powerOffOf r cpu
 performOf r (move.PowerOn w) = powerOnOf r w
 performOf r (move.EndPrime p) = endPrimeOf r p
+performOf r move.EndWithdrawn = endWithdrawnOf r
 performOf r (move.EndActivate p) = endActivateOf r p
 performOf r (move.NoteImage i) = noteImageOf r i

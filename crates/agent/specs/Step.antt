@@ -48,9 +48,11 @@ sourceOf (move.Gather a) = Own
 sourceOf (move.StartTogether a) = Own
 sourceOf (move.StartAlone a) = Own
 sourceOf move.ToIdle = Own
+sourceOf (move.Withdraw id) = Own
 sourceOf (move.PowerOff cpu) = Own
 sourceOf (move.PowerOn w) = Given w
 sourceOf (move.EndPrime p) = Own
+sourceOf move.EndWithdrawn = Own
 sourceOf (move.EndActivate p) = Own
 sourceOf (move.NoteImage i) = Own
 

@@ -17,7 +17,10 @@ use rules::Report;
 use rules::Waking;
 ghost use mathlib.Core.Path.{_≡_};
 ghost use lib.ListN.{set};
-ghost use Rattle.agent.specs.Perform.{refusedOf, acceptedOf, successOf, informedOf, noteInfoOf, imagedOf, noteImageOf, joinedOf, heldOf, settledOf, freedOf, cancelledOf, toIdleOf, poweredOf, powerOffOf, powerOnOf, reportedOf, afterPrime, endPrimeOf, afterActivate, forgottenOf, isDone, endedOf, releasedOf, endActivateOf, performOf};
+ghost use Rattle.agent.specs.Perform.{refusedOf, acceptedOf, successOf, informedOf, noteInfoOf, imagedOf, noteImageOf, joinedOf, heldOf, settledOf, freedOf, cancelledOf, toIdleOf, withdrawnOf, withdrawOf, poweredOf, powerOffOf, powerOnOf, reportedOf, afterPrime, endPrimeOf, endWithdrawnOf, afterActivate, forgottenOf, isDone, endedOf, releasedOf, endActivateOf, performOf};
+
+// The status, without its sign, of those whose wait a CANCEL ended.
+const CANCELLED: u64 = 11;
 
 fn refused(rec: Record, x: Refusal) -> Stepped
     ensures { λ r. ⌜ r ≡ refusedOf rec x ⌝ }
@@ -156,7 +159,7 @@ fn cancelled(rec: Record) -> Release
     let s = rec.state;
     let held = rec.held;
     if board_record::is_gathering(s) {
-        freed(held, rules::minus(11), 0)
+        freed(held, rules::minus(CANCELLED), 0)
     } else {
         Release::Nobody
     }
@@ -166,6 +169,22 @@ fn to_idle(rec: Record) -> Stepped
     ensures { λ r. ⌜ r ≡ toIdleOf rec ⌝ }
 {
     accepted(settled(rec, State::Idle), success(0), cancelled(rec))
+}
+
+// The preparation is withdrawn; who called for it stays held.
+fn withdrawn(rec: Record, id: u64) -> Record
+    ensures { λ r. ⌜ r ≡ withdrawnOf rec id ⌝ }
+{
+    Record {
+        state: State::Withdrawn(id),
+        ..rec
+    }
+}
+
+fn withdraw(rec: Record, id: u64) -> Stepped
+    ensures { λ r. ⌜ r ≡ withdrawOf rec id ⌝ }
+{
+    accepted(withdrawn(rec, id), success(0), Release::Nobody)
 }
 
 fn powered(rec: Record, cpus: CpuSet) -> Record
@@ -227,6 +246,18 @@ fn end_prime(rec: Record, p: Report) -> Stepped
         settled(rec, after_prime(p)),
         Caller::Nothing,
         reported(held, p.code),
+    )
+}
+
+// A withdrawn preparation ended: its job's own result counts for nothing.
+fn end_withdrawn(rec: Record) -> Stepped
+    ensures { λ r. ⌜ r ≡ endWithdrawnOf rec ⌝ }
+{
+    let held = rec.held;
+    accepted(
+        settled(rec, State::Idle),
+        Caller::Nothing,
+        freed(held, rules::minus(CANCELLED), 0),
     )
 }
 
@@ -308,9 +339,11 @@ pub(crate) fn perform(rec: Record, m: Move) -> Stepped
         ),
         Move::StartAlone(a) => hold(rec, State::Alone(a.component), a, Caller::ActivationStarted),
         Move::ToIdle => to_idle(rec),
+        Move::Withdraw(id) => withdraw(rec, id),
         Move::PowerOff(cpu) => power_off(rec, cpu),
         Move::PowerOn(w) => power_on(rec, w),
         Move::EndPrime(p) => end_prime(rec, p),
+        Move::EndWithdrawn => end_withdrawn(rec),
         Move::EndActivate(p) => end_activate(rec, p),
         Move::NoteImage(i) => note_image(rec, i),
     }

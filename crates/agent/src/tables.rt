@@ -51,9 +51,11 @@ pub(crate) fn source_of(m: Move) -> Source
         Move::StartTogether(_) => Source::Own,
         Move::StartAlone(_) => Source::Own,
         Move::ToIdle => Source::Own,
+        Move::Withdraw(_) => Source::Own,
         Move::PowerOff(_) => Source::Own,
         Move::PowerOn(w) => Source::Given(w),
         Move::EndPrime(_) => Source::Own,
+        Move::EndWithdrawn => Source::Own,
         Move::EndActivate(_) => Source::Own,
         Move::NoteImage(_) => Source::Own,
     }

@@ -8,7 +8,7 @@ use lib.ListN.{getD}
 use borrow.Author.Tests.{ltb-true}
 use Rattle.board_record.specs.Record.{placeOf, inOrder, stateCount}
 use Rattle.board_record.specs.declared.State.{State}
-use Rattle.board_record.specs.declared.State.the-variants.{Idle, Preparing, HalfPrepared, Ready, Gathering, Together, Alone, HalfActivated, Dead}
+use Rattle.board_record.specs.declared.State.the-variants.{Idle, Preparing, HalfPrepared, Ready, Gathering, Together, Alone, HalfActivated, Dead, Withdrawn}
 
 -- two functions of a state that give the same for each of the states in order, whatever their component
 module _ {A : Type 0} (f g : State → A) (same : (c : ℕ) → map f (inOrder c) ≡ map g (inOrder c)) where
@@ -26,6 +26,7 @@ module _ {A : Type 0} (f g : State → A) (same : (c : ℕ) → map f (inOrder c
   every-state (Alone c) = same-at c 6
   every-state (HalfActivated c) = same-at c 7
   every-state Dead = same-at 0 8
+  every-state (Withdrawn c) = same-at c 9
 
 -- each has a place in the table
 pub place-below : (s : State) → placeOf s < stateCount

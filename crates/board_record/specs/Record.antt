@@ -9,14 +9,14 @@ use Rattle.cpuset.specs.Set.{noneOf, onlyOf}
 use Rattle.board.specs.Description.{mostComponents, mostCpus}
 use Rattle.board.specs.declared.Board.{Board}
 use Rattle.board_record.specs.declared.State.{State}
-use Rattle.board_record.specs.declared.State.the-variants.{Idle, Preparing, HalfPrepared, Ready, Gathering, Together, Alone, HalfActivated, Dead}
+use Rattle.board_record.specs.declared.State.the-variants.{Idle, Preparing, HalfPrepared, Ready, Gathering, Together, Alone, HalfActivated, Dead, Withdrawn}
 use Rattle.board_record.specs.declared.Subject.{Subject}
 use Rattle.board_record.specs.declared.Subject.the-variants.{Nothing, Of}
 use Rattle.board_record.specs.declared.Holding.{Holding}
 use Rattle.board_record.specs.declared.Holding.the-variants.{Nobody, One, Part, All}
 use Rattle.board_record.specs.declared.Record.{Record}
 
--- "the state with its component" (Board 3)
+-- "the state with its component" (Board 3; withdrawn: request 3)
 abbrev pub subjectOf : State → Subject
 subjectOf Idle = Nothing
 subjectOf (Preparing c) = Of c
@@ -27,6 +27,7 @@ subjectOf (Together c) = Of c
 subjectOf (Alone c) = Of c
 subjectOf (HalfActivated c) = Of c
 subjectOf Dead = Nothing
+subjectOf (Withdrawn c) = Of c
 
 -- its number, 0 where there is none
 abbrev pub aboutNumber : Subject → ℕ
@@ -44,7 +45,7 @@ isAbout (Of c) id = eqb c id
 abbrev pub isFor : State → ℕ → Bool
 isFor s id = isAbout (subjectOf s) id
 
--- how many of the powered CPUs each state holds ("Held CPUs", Board 6)
+-- how many of the powered CPUs each state holds ("Held CPUs", Board 6; in withdrawn "as in preparing", request 3)
 abbrev pub holdingOf : State → Holding
 holdingOf Idle = Nobody
 holdingOf (Preparing c) = One
@@ -55,6 +56,7 @@ holdingOf (Together c) = All
 holdingOf (Alone c) = One
 holdingOf (HalfActivated c) = Nobody
 holdingOf Dead = Nobody
+holdingOf (Withdrawn c) = One
 
 -- a state's place in document 01's table of rules, which is also its number for a host; first the places that rules ask
 -- for by name
@@ -82,6 +84,9 @@ halfActivatedPlace = 7
 abbrev pub deadPlace : ℕ
 deadPlace = 8
 
+abbrev pub withdrawnPlace : ℕ
+withdrawnPlace = 9
+
 abbrev pub placeOf : State → ℕ
 placeOf Idle = idlePlace
 placeOf (Preparing c) = preparingPlace
@@ -92,18 +97,23 @@ placeOf (Together c) = togetherPlace
 placeOf (Alone c) = alonePlace
 placeOf (HalfActivated c) = halfActivatedPlace
 placeOf Dead = deadPlace
+placeOf (Withdrawn c) = withdrawnPlace
 
 -- the states in the order of that table, about component c where they have one
 abbrev pub inOrder : ℕ → List State
-inOrder c = Idle ∷ Preparing c ∷ HalfPrepared c ∷ Ready c ∷ Gathering c ∷ Together c ∷ Alone c ∷ HalfActivated c ∷ Dead ∷ []
+inOrder c = Idle ∷ Preparing c ∷ HalfPrepared c ∷ Ready c ∷ Gathering c ∷ Together c ∷ Alone c ∷ HalfActivated c ∷ Dead ∷ Withdrawn c ∷ []
 
 -- how many there are; a new state takes the next place, and those that are there keep theirs
 abbrev pub stateCount : ℕ
 stateCount = length (inOrder 0)
 
--- a prime job is running
-abbrev pub isPreparing : State → Bool
-isPreparing s = eqb (placeOf s) preparingPlace
+-- a prime job is running, "withdrawn" (request 3) or not
+abbrev pub hasPrimeJob : State → Bool
+hasPrimeJob s = oneOf (placeOf s) (preparingPlace ∷ withdrawnPlace ∷ [])
+
+-- and it was withdrawn
+abbrev pub isWithdrawn : State → Bool
+isWithdrawn s = eqb (placeOf s) withdrawnPlace
 
 -- some of the powered CPUs are held for ACTIVATE, and not all
 abbrev pub isGathering : State → Bool

@@ -18,10 +18,11 @@ pub enum State {
     Alone(u64),
     HalfActivated(u64),
     Dead,
+    Withdrawn(u64),
 }
 
 // How many states there are; a new one takes the next place.
-pub const STATES: usize = 9;
+pub const STATES: usize = 10;
 
 // The places of these in the table of rules that rules ask for by name.
 pub const IDLE: usize = 0;
@@ -39,6 +40,8 @@ pub const ALONE: usize = 6;
 const HALF_ACTIVATED: usize = 7;
 
 pub const DEAD: usize = 8;
+
+pub const WITHDRAWN: usize = 9;
 
 // What a state is about: nothing, or a component.
 pub enum Subject {
@@ -99,6 +102,7 @@ pub fn subject_of(s: State) -> Subject
         State::Alone(c) => Subject::Of(c),
         State::HalfActivated(c) => Subject::Of(c),
         State::Dead => Subject::Nothing,
+        State::Withdrawn(c) => Subject::Of(c),
     }
 }
 
@@ -126,6 +130,7 @@ fn holding_of(s: State) -> Holding
         State::Alone(_) => Holding::One,
         State::HalfActivated(_) => Holding::Nobody,
         State::Dead => Holding::Nobody,
+        State::Withdrawn(_) => Holding::One,
     }
 }
 
@@ -143,6 +148,7 @@ pub fn place_of(s: State) -> usize
         State::Alone(_) => ALONE,
         State::HalfActivated(_) => HALF_ACTIVATED,
         State::Dead => DEAD,
+        State::Withdrawn(_) => WITHDRAWN,
     }
 }
 

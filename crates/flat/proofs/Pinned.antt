@@ -16,6 +16,10 @@ use Rattle.flat.proofs.prepared.Kinds as prepared-kinds
 use Rattle.flat.proofs.prepared.Reads as prepared-reads
 use Rattle.flat.proofs.starts.Kinds as starts-kinds
 use Rattle.flat.proofs.starts.Reads as starts-reads
+use Rattle.flat.proofs.powered.Kinds as powered-kinds
+use Rattle.flat.proofs.powered.Reads as powered-reads
+use Rattle.flat.proofs.held.Kinds as held-kinds
+use Rattle.flat.proofs.held.Reads as held-reads
 use Rattle.flat.proofs.why.Kinds as why-kinds
 use Rattle.flat.proofs.why.Reads as why-reads
 
@@ -42,6 +46,12 @@ prepared-pinned κs a z z′ ws ws′ p q = just p q
 
 pub starts-pinned : OneOutcome 2 starts-kinds.ps starts-kinds.r starts-reads.Post
 starts-pinned κs a z z′ ws ws′ p q = just p q
+
+pub powered-pinned : OneOutcome 1 powered-kinds.ps powered-kinds.r powered-reads.Post
+powered-pinned κs a z z′ ws ws′ p q = just p q
+
+pub held-pinned : OneOutcome 1 held-kinds.ps held-kinds.r held-reads.Post
+held-pinned κs a z z′ ws ws′ p q = just p q
 
 pub why-pinned : OneOutcome 2 why-kinds.ps why-kinds.r why-reads.Post
 why-pinned κs a z z′ ws ws′ p q = just p q

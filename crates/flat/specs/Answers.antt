@@ -26,8 +26,9 @@ use Rattle.logbook.specs.Numbers.{foundIn as primedIn, componentIn as primedCom
 use Rattle.logbook.specs.declared.Answer.{Answer as LogAnswer}
 use Rattle.logbook.specs.declared.Flaw.{Flaw}
 use Rattle.logbook.specs.declared.Primed.{Primed}
-use Rattle.reader.specs.Numbers.{foundIn as startedIn, componentIn as startedComponent, Numbers as StartNumbers, refusedWith as notStartedWith, numbersOf as startNumbers}
+use Rattle.reader.specs.Numbers.{foundIn as startedIn, componentIn as startedComponent, Numbers as StartNumbers, refusedWith as notStartedWith, numbersOf as startNumbers, refusalOf as cpusRefusal, placeOf as cpusPlace, cpusIn}
 use Rattle.reader.specs.declared.Answer.{Answer as StartAnswer}
+use Rattle.reader.specs.declared.Cpus.{Cpus}
 use Rattle.reader.specs.declared.Started.{Started}
 use Rattle.reason.specs.Numbers.{Numbers as ReasonNumbers, numbersOf as reasonNumbers}
 use Rattle.reason.specs.declared.Explained.{Explained}
@@ -38,6 +39,7 @@ use Rattle.flat.specs.declared.FlatFound.{FlatFound}
 use Rattle.flat.specs.declared.FlatPrepared.{FlatPrepared}
 use Rattle.flat.specs.declared.FlatRead.{FlatRead}
 use Rattle.flat.specs.declared.FlatStarted.{FlatStarted}
+use Rattle.flat.specs.declared.FlatCpus.{FlatCpus}
 use Rattle.flat.specs.declared.FlatWhy.{FlatWhy}
 use Rattle.flat.specs.declared.FlatWritten.{FlatWritten}
 use Rattle.trace.specs.declared.Read.{Read}
@@ -128,6 +130,10 @@ logRefused f = notStarted (logNumber (f .refusal)) (f .place)
 
 abbrev pub startedBy : StartAnswer → FlatStarted
 startedBy a = startedWith (startNumbers a)
+
+-- ---- which CPUs the log tells of
+abbrev pub cpusBy : Cpus → FlatCpus
+cpusBy c = record { refusal = cpusRefusal c; place = cpusPlace c; cpus = cpusIn c }
 
 -- ---- why an ACTIVATE gets its answer
 unfoldable pub whyWith : ReasonNumbers → FlatWhy

@@ -22,10 +22,10 @@ use Rattle.log_record.specs.Packed as packed
 use Rattle.log_record.specs.Rules.{numberOf as logNumber}
 use Rattle.log_record.specs.declared.Refusal.the-variants as log-refusal
 use Rattle.logbook.specs.Prepared.{preparedAt}
-use Rattle.reader.specs.Starts.{startsAt}
+use Rattle.reader.specs.Starts.{startsAt, poweredAt, heldAt}
 use Rattle.reason.specs.Explained.{explainedOf}
 use Rattle.reason.specs.declared.Activate.{Activate}
-use Rattle.flat.specs.Answers.{eventIn, refusedAnswer, answerOf, loggedIn, writtenBy, describedBy, readBy, preparedBy, startedBy, whyBy}
+use Rattle.flat.specs.Answers.{eventIn, refusedAnswer, answerOf, loggedIn, writtenBy, describedBy, readBy, preparedBy, startedBy, cpusBy, whyBy}
 use Rattle.flat.specs.Records.{flatWith, flatOf, boardIn, recordIn, isFlat, hasFlags, zeroRecord}
 use Rattle.flat.specs.declared.FlatAbi.{FlatAbi}
 use Rattle.flat.specs.declared.FlatAnswer.{FlatAnswer}
@@ -37,6 +37,7 @@ use Rattle.flat.specs.declared.FlatRead.{FlatRead}
 use Rattle.flat.specs.declared.FlatRecord.{FlatRecord}
 use Rattle.flat.specs.declared.FlatStarted.{FlatStarted}
 use Rattle.flat.specs.declared.FlatStepped.{FlatStepped}
+use Rattle.flat.specs.declared.FlatCpus.{FlatCpus}
 use Rattle.flat.specs.declared.FlatWhy.{FlatWhy}
 use Rattle.flat.specs.declared.FlatWritten.{FlatWritten}
 use Rattle.trace.specs.declared.Read.{Read}
@@ -46,7 +47,7 @@ use Rattle.trace.specs.declared.Read.the-variants.{Known, Unknown}
 -- what a host lends and gets
 -- (crates/flat/proofs/Sizes.antt shows that these are the bytes of the types)
 unfoldable pub abiOf : FlatAbi
-abiOf = record { number = 2; rec = 2024; event = 88; answer = 80 }
+abiOf = record { number = 3; rec = 2024; event = 88; answer = 80 }
 
 -- ---- a board description from its parts: 22 for a flag that is neither 0 nor 1, then as its writer says
 unfoldable pub describedOf : ℕ → FlatBoard → FlatWritten
@@ -113,6 +114,12 @@ preparedIn log place = preparedBy (preparedAt log place)
 
 unfoldable pub startedIn : List ℕ → List ℕ → ℕ → Call → FlatStarted
 startedIn board log place call = startedBy (startsAt board log place call)
+
+unfoldable pub poweredIn : List ℕ → ℕ → FlatCpus
+poweredIn log place = cpusBy (poweredAt log place)
+
+unfoldable pub heldIn : List ℕ → ℕ → FlatCpus
+heldIn log place = cpusBy (heldAt log place)
 
 unfoldable pub whyIn : List ℕ → List ℕ → ℕ → Activate → FlatWhy
 whyIn board log place a = whyBy (explainedOf board log place a)

@@ -1,5 +1,6 @@
 // Events, answers and what questions find, as numbers and back.
 use crate::FlatAnswer;
+use crate::FlatCpus;
 use crate::FlatEvent;
 use crate::FlatFound;
 use crate::FlatPrepared;
@@ -28,11 +29,12 @@ use log_record::ReadRecord;
 use log_record::Written;
 use logbook::Flaw;
 use logbook::Primed;
+use reader::Cpus;
 use reader::Started;
 use rules::Registers;
 use trace::Read;
 ghost use mathlib.Core.Path.{_≡_};
-ghost use Rattle.flat.specs.Answers.{eventIn, refusedAnswer, answerOf, callerIn, releaseIn, loggedIn, writtenBy, describedBy, readBy, primedFound, foundOf, notFound, startedFound, preparedBy, notStarted, logRefused, startedBy};
+ghost use Rattle.flat.specs.Answers.{eventIn, refusedAnswer, answerOf, callerIn, releaseIn, loggedIn, writtenBy, describedBy, readBy, primedFound, foundOf, notFound, startedFound, preparedBy, notStarted, logRefused, startedBy, cpusBy};
 ghost use Rattle.flat.specs.Calls.{keptWith, throughOf};
 
 pub(crate) fn event(e: FlatEvent) -> Read
@@ -282,5 +284,25 @@ pub(crate) fn started(a: reader::Answer) -> FlatStarted
         },
         reader::Answer::BoardRefused(x) => not_started(board::number(x), 0),
         reader::Answer::LogRefused(f) => log_refused(f),
+    }
+}
+
+pub(crate) fn cpus(c: Cpus) -> FlatCpus
+    ensures { λ r. ⌜ r ≡ cpusBy c ⌝ }
+{
+    match c {
+        Cpus::Found(s) => FlatCpus {
+            refusal: 0,
+            place: 0,
+            cpus: s,
+        },
+        Cpus::Refused(f) => {
+            let x = f.refusal;
+            FlatCpus {
+                refusal: log_record::number(x),
+                place: f.place,
+                cpus: cpuset::none(),
+            }
+        }
     }
 }

@@ -5,7 +5,7 @@ mod records;
 
 ghost use mathlib.Core.Path.{_≡_};
 ghost use lib.ListN.{length};
-ghost use Rattle.flat.specs.Calls.{abiOf, describedOf, descriptionOf, readIn, freshIn, noEvent, stepOf, entriesOf, contextsOf, writtenOf, bufferOf, preparedIn, startedIn, whyIn};
+ghost use Rattle.flat.specs.Calls.{abiOf, describedOf, descriptionOf, readIn, freshIn, noEvent, stepOf, entriesOf, contextsOf, writtenOf, bufferOf, preparedIn, startedIn, poweredIn, heldIn, whyIn};
 use agent::Freed;
 use board::MOST_COMPONENTS;
 use board::MOST_CPUS;
@@ -21,7 +21,7 @@ use rules::Report;
 use trace::Read;
 
 // The ABI number, which rises with every change of a layout or of what a number means, and the bytes of the structs.
-const ABI: u64 = 2;
+const ABI: u64 = 3;
 
 const RECORD_SIZE: u64 = 2024;
 
@@ -146,6 +146,14 @@ pub struct FlatStarted {
     pub started: FlatFound,
 }
 
+// The CPUs that a log tells of; or the number of a refusal and the place of the record to blame.
+#[repr(C)]
+pub struct FlatCpus {
+    pub refusal: u64,
+    pub place: usize,
+    pub cpus: CpuSet,
+}
+
 // The number of a reason, from 1 on, with the component and the CPUs that it names; or the number of a refusal and the place of
 // the record to blame.
 #[repr(C)]
@@ -259,6 +267,20 @@ pub fn starts(board: &[u8], log: &[u8], place: usize, call: Call) -> FlatStarted
     ensures { λ r. ⌜ r ≡ startedIn (now (board .entry)) (now (log .entry)) place call ⌝ }
 {
     answers::started(reader::starts_at(board, log, place, call))
+}
+
+// The powered CPUs at a place of a log, by the log alone.
+pub fn powered(log: &[u8], place: usize) -> FlatCpus
+    ensures { λ r. ⌜ r ≡ poweredIn (now (log .entry)) place ⌝ }
+{
+    answers::cpus(reader::powered_at(log, place))
+}
+
+// The held CPUs at a place of a log, by the log alone.
+pub fn held(log: &[u8], place: usize) -> FlatCpus
+    ensures { λ r. ⌜ r ≡ heldIn (now (log .entry)) place ⌝ }
+{
+    answers::cpus(reader::held_at(log, place))
 }
 
 // Why an ACTIVATE made at a place of a log gets its answer.

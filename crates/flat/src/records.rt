@@ -36,6 +36,7 @@ fn state(number: u64, c: u64) -> State
         6 => State::Alone(c),
         7 => State::HalfActivated(c),
         8 => State::Dead,
+        9 => State::Withdrawn(c),
         _ => State::Dead,
     }
 }

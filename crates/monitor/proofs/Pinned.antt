@@ -22,6 +22,10 @@ use Rattle.monitor.proofs.lfa_prepared.Kinds as lfa-prepared-kinds
 use Rattle.monitor.proofs.lfa_prepared.Reads as lfa-prepared-reads
 use Rattle.monitor.proofs.lfa_starts.Kinds as lfa-starts-kinds
 use Rattle.monitor.proofs.lfa_starts.Reads as lfa-starts-reads
+use Rattle.monitor.proofs.lfa_powered.Kinds as lfa-powered-kinds
+use Rattle.monitor.proofs.lfa_powered.Reads as lfa-powered-reads
+use Rattle.monitor.proofs.lfa_held.Kinds as lfa-held-kinds
+use Rattle.monitor.proofs.lfa_held.Reads as lfa-held-reads
 use Rattle.monitor.proofs.lfa_why.Kinds as lfa-why-kinds
 use Rattle.monitor.proofs.lfa_why.Reads as lfa-why-reads
 
@@ -45,6 +49,12 @@ lfa-prepared-pinned κs a z z′ ws ws′ p q = just p q
 
 pub lfa-starts-pinned : OneOutcome 2 lfa-starts-kinds.ps lfa-starts-kinds.r lfa-starts-reads.Post
 lfa-starts-pinned κs a z z′ ws ws′ p q = just p q
+
+pub lfa-powered-pinned : OneOutcome 1 lfa-powered-kinds.ps lfa-powered-kinds.r lfa-powered-reads.Post
+lfa-powered-pinned κs a z z′ ws ws′ p q = just p q
+
+pub lfa-held-pinned : OneOutcome 1 lfa-held-kinds.ps lfa-held-kinds.r lfa-held-reads.Post
+lfa-held-pinned κs a z z′ ws ws′ p q = just p q
 
 pub lfa-why-pinned : OneOutcome 2 lfa-why-kinds.ps lfa-why-kinds.r lfa-why-reads.Post
 lfa-why-pinned κs a z z′ ws ws′ p q = just p q

@@ -1,11 +1,12 @@
 // What a host links: C functions with the prefix lfa_. host/lfa.h says them in C.
 ghost use mathlib.Core.Path.{_≡_};
 ghost use lib.ListN.{length};
-ghost use Rattle.flat.specs.Calls.{abiOf, describedOf, descriptionOf, readIn, freshIn, stepOf, entriesOf, contextsOf, writtenOf, bufferOf, preparedIn, startedIn, whyIn};
+ghost use Rattle.flat.specs.Calls.{abiOf, describedOf, descriptionOf, readIn, freshIn, stepOf, entriesOf, contextsOf, writtenOf, bufferOf, preparedIn, startedIn, poweredIn, heldIn, whyIn};
 use codes::Call;
 use flat::FlatAbi;
 use flat::FlatAnswer;
 use flat::FlatBoard;
+use flat::FlatCpus;
 use flat::FlatEvent;
 use flat::FlatFresh;
 use flat::FlatPrepared;
@@ -90,6 +91,22 @@ pub extern "C" fn lfa_starts(board: &[u8], log: &[u8], place: usize, call: Call)
     ensures { λ r. ⌜ r ≡ startedIn (now (board .entry)) (now (log .entry)) place call ⌝ }
 {
     flat::starts(board, log, place, call)
+}
+
+// The powered CPUs at a place of a log, by the log alone.
+#[no_mangle]
+pub extern "C" fn lfa_powered(log: &[u8], place: usize) -> FlatCpus
+    ensures { λ r. ⌜ r ≡ poweredIn (now (log .entry)) place ⌝ }
+{
+    flat::powered(log, place)
+}
+
+// The held CPUs at a place of a log, by the log alone.
+#[no_mangle]
+pub extern "C" fn lfa_held(log: &[u8], place: usize) -> FlatCpus
+    ensures { λ r. ⌜ r ≡ heldIn (now (log .entry)) place ⌝ }
+{
+    flat::held(log, place)
 }
 
 // Why an ACTIVATE made at a place of a log gets its answer.

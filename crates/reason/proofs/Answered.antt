@@ -14,7 +14,7 @@ use Rattle.board_record.specs.Record.{subjectNumber, isFor, isGathering, isAlon
 use Rattle.board_record.specs.WellFormed.{wellFormed}
 use Rattle.board_record.specs.declared.Record.{Record}
 use Rattle.board_record.specs.declared.State.{State}
-use Rattle.board_record.specs.declared.State.the-variants.{Idle, Preparing, HalfPrepared, Ready, Gathering, Together, Alone, HalfActivated, Dead}
+use Rattle.board_record.specs.declared.State.the-variants.{Idle, Preparing, HalfPrepared, Ready, Gathering, Together, Alone, HalfActivated, Dead, Withdrawn}
 use Rattle.rules.specs.Calls.{returned, says, skips, arrivalOf, skipRight, fieldsRight, joinOf, tryActivateOf, activateBy, activateOf, answerOf, callOf as callRules}
 use Rattle.rules.specs.Decide.{decideOf}
 use Rattle.rules.specs.Numbers.{decodeOf}
@@ -101,6 +101,7 @@ module _ (r : Record) (a : Activate) where
   activated (Alone c) w h = tried
   activated (HalfActivated c) w h = tried
   activated Dead w h = record { outcome = refl; starts = refl }
+  activated (Withdrawn c) w h = record { outcome = refl; starts = refl }
 
   -- an accepted call's rules are its function's
   let-in : (stands short-1 short-2 absent on held : Bool) (m : Move) (w : Answer)

@@ -62,6 +62,13 @@ use Rattle.reason.proofs.Numbers.{outcome-number}
 keyOf : Rule → ℕ
 keyOf x = numberOf (x .0)
 
+-- the rows of the last two rules: somebody is missing, and nobody is
+abbrev heldRow : ℕ
+heldRow = 13
+
+abbrev presentRow : ℕ
+presentRow = 14
+
 module _ (r : Record) (a : Activate) where
   abbrev rows : List Rule
   rows = reasonRows r a
@@ -85,7 +92,7 @@ module _ (r : Record) (a : Activate) where
   -- which rule gave the reason
   rule-of : (i : ℕ) → i < length rows → numberOf (reasonOf r a) ≡ numberOf (getD rows i past .0) → IsFirst past rows i
   unfolding reasonOf
-  rule-of i l e = first-known past numberOf AllPresent rows apart 13 (omega arith) refl i l e
+  rule-of i l e = first-known past numberOf AllPresent rows apart presentRow (omega arith) refl i l e
 
   -- ---- what is given where a reason is
   record Given (e : Ended) (x : Reason) : Type 0 where
@@ -127,13 +134,13 @@ module _ (r : Record) (a : Activate) where
   unfolding stepOf
   answered x e g = accepted-fits r a (g .answer) (g .accepted) .outcome ∙ ap (λ (y : Reason). Accepted (answerFor y)) (g .reason)
 
-  -- ---- the missing: the rule that says so is row 12
-  held-rule : (s : CpuSet) → reasonOf r a ≡ Held s → IsFirst past rows 12
-  held-rule s q = rule-of 12 (omega arith) (ap numberOf q)
+  -- ---- the missing
+  held-rule : (s : CpuSet) → reasonOf r a ≡ Held s → IsFirst past rows heldRow
+  held-rule s q = rule-of heldRow (omega arith) (ap numberOf q)
 
   held-set : (s : CpuSet) → reasonOf r a ≡ Held s → s ≡ missingOf r (a .cpu)
   unfolding reasonOf
-  held-set s q = let h = first-given past AllPresent rows 12 (held-rule s q) in cc
+  held-set s q = let h = first-given past AllPresent rows heldRow (held-rule s q) in cc
 
   is-missing : (cpu : ℕ) → hasOf (missingOf r (a .cpu)) cpu ≡ true ↔ IsMissing r a cpu
   unfolding missingOf
@@ -175,7 +182,7 @@ module _ (r : Record) (a : Activate) where
   present-by : (c : ℕ) (t : Bool) → eqb (numberOf (reasonOf r a)) (numberOf AllPresent) ≡ t → pick t (Of (a .x1)) Nothing ≡ Of c → (reasonOf r a ≡ AllPresent) × (c ≡ a .x1)
   unfolding reasonOf
   present-by c false e q = never cc
-  present-by c true e q = (first-given past AllPresent rows 13 (rule-of 13 (omega arith) (eqb-true (numberOf (reasonOf r a)) (numberOf AllPresent) e)), cc)
+  present-by c true e q = (first-given past AllPresent rows presentRow (rule-of presentRow (omega arith) (eqb-true (numberOf (reasonOf r a)) (numberOf AllPresent) e)), cc)
 
   started : (c : ℕ) (o : Outcome) → outcomeAt r a ≡ o → agentStarts r (callOf a) ≡ Of c → (calledBy o (reasonOf r a) ≡ Because AllPresent) × (c ≡ a .x1)
   unfolding agentStarts

@@ -18,7 +18,7 @@ use Rattle.history.specs.declared.Walked.{Walked}
 use Rattle.reason.specs.Reason.{callOf, reasonOf}
 use Rattle.reason.specs.declared.Activate.{Activate}
 use Rattle.reason.specs.declared.Reason.{Reason}
-use Rattle.reason.specs.declared.Reason.the-variants.{NothingPrepared, BeingPrepared, HalfPrepared, BoardDead, OtherComponent, OtherFlags, NotOptional, SkipInGathering, NoSkip, BadEntry, BeingActivated, Skipped, Held, AllPresent}
+use Rattle.reason.specs.declared.Reason.the-variants.{NothingPrepared, BeingPrepared, HalfPrepared, BoardDead, WasWithdrawn, OtherComponent, OtherFlags, NotOptional, SkipInGathering, NoSkip, BadEntry, BeingActivated, Skipped, Held, AllPresent}
 use Rattle.reason.specs.declared.Explained.{Explained}
 use Rattle.reason.specs.declared.Explained.the-variants.{Because, BoardRefused, LogRefused, Departs, CallRefused}
 
@@ -41,6 +41,7 @@ saysOf NothingPrepared = says 1 0 noneOf (status 7)
 saysOf (BeingPrepared c) = says 2 c noneOf (status 7)
 saysOf (HalfPrepared c) = says 3 c noneOf (status 7)
 saysOf BoardDead = says 4 0 noneOf (status 7)
+saysOf (WasWithdrawn c) = says 15 c noneOf (status 7)
 saysOf (OtherComponent c) = says 5 c noneOf (status 8)
 saysOf OtherFlags = says 6 0 noneOf (status 8)
 saysOf NotOptional = says 7 0 noneOf (status 8)

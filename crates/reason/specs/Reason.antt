@@ -10,13 +10,13 @@ use Rattle.codes.specs.declared.Call.{Call}
 use Rattle.cpuset.specs.Set.{withoutOf, lessOf}
 use Rattle.cpuset.specs.declared.CpuSet.{CpuSet}
 use Rattle.board.specs.Description.{numberedOf, entryRight}
-use Rattle.board_record.specs.Record.{idlePlace, preparingPlace, halfPreparedPlace, deadPlace, placeOf, subjectNumber, isFor, isGathering, isAlone, skipsRendezvous}
+use Rattle.board_record.specs.Record.{idlePlace, preparingPlace, halfPreparedPlace, deadPlace, withdrawnPlace, placeOf, subjectNumber, isFor, isGathering, isAlone, skipsRendezvous}
 use Rattle.board_record.specs.declared.Record.{Record}
 use Rattle.board_record.specs.declared.State.{State}
 use Rattle.rules.specs.Calls.{skips, otherFlags, allPresent}
 use Rattle.reason.specs.declared.Activate.{Activate}
 use Rattle.reason.specs.declared.Reason.{Reason}
-use Rattle.reason.specs.declared.Reason.the-variants.{NothingPrepared, BeingPrepared, HalfPrepared, BoardDead, OtherComponent, OtherFlags, NotOptional, SkipInGathering, NoSkip, BadEntry, BeingActivated, Skipped, Held, AllPresent}
+use Rattle.reason.specs.declared.Reason.the-variants.{NothingPrepared, BeingPrepared, HalfPrepared, BoardDead, WasWithdrawn, OtherComponent, OtherFlags, NotOptional, SkipInGathering, NoSkip, BadEntry, BeingActivated, Skipped, Held, AllPresent}
 
 -- the call that is asked about
 unfoldable pub callOf : Activate → Call
@@ -30,13 +30,14 @@ missingOf r cpu = lessOf (withoutOf (r .on) cpu) (r .held)
 abbrev pub Rule : Type 0
 Rule = RowOf Reason
 
--- -7, by the state (the column ACTIVATE of the table, Calls 11 to 19)
+-- -7, by the state (the column ACTIVATE of the table, Calls 11 to 19; withdrawn: request 3)
 abbrev pub stateRows : State → List Rule
 stateRows s =
     (NothingPrepared, eqb (placeOf s) idlePlace)
     ∷ (BeingPrepared (subjectNumber s), eqb (placeOf s) preparingPlace)
     ∷ (HalfPrepared (subjectNumber s), eqb (placeOf s) halfPreparedPlace)
     ∷ (BoardDead, eqb (placeOf s) deadPlace)
+    ∷ (WasWithdrawn (subjectNumber s), eqb (placeOf s) withdrawnPlace)
     ∷ []
 
 -- -8 (Calls 21): the id, then the flags

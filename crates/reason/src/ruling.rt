@@ -6,6 +6,7 @@ use board_record::HALF_PREPARED;
 use board_record::IDLE;
 use board_record::PREPARING;
 use board_record::Record;
+use board_record::WITHDRAWN;
 use cpuset::CpuSet;
 ghost use mathlib.Core.Path.{_≡_};
 ghost use mathlib.Core.List.{_++_};
@@ -110,6 +111,9 @@ pub(crate) fn reason(rec: Record, a: Activate) -> Reason
     }
     if place == DEAD {
         return Reason::BoardDead;
+    }
+    if place == WITHDRAWN {
+        return Reason::WasWithdrawn(board_record::subject_number(s));
     }
     asked(rec, a)
 }

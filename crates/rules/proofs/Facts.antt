@@ -20,7 +20,7 @@ use Rattle.rules.specs.declared.Event.{Event}
 use Rattle.rules.specs.declared.Event.the-variants as event
 use Rattle.rules.specs.declared.Image.{Image}
 use Rattle.rules.specs.declared.Move.{Move}
-use Rattle.rules.specs.declared.Move.the-variants.{Refuse, Return, NoteInfo, StartPrime, Gather, StartTogether, StartAlone, ToIdle, PowerOff, PowerOn, EndPrime, EndActivate, NoteImage}
+use Rattle.rules.specs.declared.Move.the-variants.{Refuse, Return, NoteInfo, StartPrime, Gather, StartTogether, StartAlone, ToIdle, Withdraw, PowerOff, PowerOn, EndPrime, EndWithdrawn, EndActivate, NoteImage}
 use Rattle.rules.specs.declared.Refusal.{Refusal}
 use Rattle.rules.specs.declared.Registers.{Registers}
 use Rattle.rules.specs.declared.Report.{Report}
@@ -89,6 +89,11 @@ pub record GoesIdle (r : Record) (e : Event) : Type 0 where
   pub asks : Asks (by .call) function.Cancel
   pub state : Cancellable (r .state) (by .call .x1)
 
+pub record Withdraws (r : Record) (e : Event) (id : ℕ) : Type 0 where
+  pub by : Called r e
+  pub asks : Asks (by .call) function.Cancel
+  pub state : Priming (r .state) id false
+
 pub record TurnsOff (r : Record) (e : Event) (cpu : ℕ) : Type 0 where
   pub by : Called r e
   pub asks : Asks (by .call) function.CpuOff
@@ -107,8 +112,14 @@ pub record TurnsOn (r : Record) (e : Event) (w : Waking) : Type 0 where
 
 pub record EndsPrime (r : Record) (e : Event) (p : Report) : Type 0 where
   pub event : e ≡ event.Prime p
-  pub running : Priming (r .state) (p .component)
+  pub running : Priming (r .state) (p .component) false
   pub allowed : isPrimeCode (p .code) ≡ true
+
+pub record EndsWithdrawn (r : Record) (e : Event) : Type 0 where
+  pub report : Report
+  pub event : e ≡ event.Prime report
+  pub running : Priming (r .state) (report .component) true
+  pub allowed : isPrimeCode (report .code) ≡ true
 
 pub record EndsActivate (r : Record) (e : Event) (p : Report) : Type 0 where
   pub event : e ≡ event.Activate p
@@ -129,9 +140,11 @@ Facts r e (Gather a) = Joins r e a false
 Facts r e (StartTogether a) = Joins r e a true
 Facts r e (StartAlone a) = Skips r e a
 Facts r e ToIdle = GoesIdle r e
+Facts r e (Withdraw id) = Withdraws r e id
 Facts r e (PowerOff cpu) = TurnsOff r e cpu
 Facts r e (PowerOn w) = TurnsOn r e w
 Facts r e (EndPrime p) = EndsPrime r e p
+Facts r e EndWithdrawn = EndsWithdrawn r e
 Facts r e (EndActivate p) = EndsActivate r e p
 Facts r e (NoteImage i) = NotesImage r e i
 

@@ -13,7 +13,7 @@ use Rattle.codes.specs.Codes.{isPrimeCode}
 use Rattle.codes.specs.declared.Call.{Call}
 use Rattle.cpuset.specs.Set.{hasOf, onlyOf, withOf, sameOf}
 use Rattle.board.specs.Description.{numberedOf, isCapable, mayReset, goodEntry, entryRight}
-use Rattle.board_record.specs.Record.{isFor, holdingOf, skipsRendezvous, isGathering, isAlone, isPending, versionOf}
+use Rattle.board_record.specs.Record.{isFor, holdingOf, skipsRendezvous, isGathering, isAlone, isPending, versionOf, isWithdrawn}
 use Rattle.board_record.specs.WellFormed.{wellFormed}
 use Rattle.board_record.proofs.Clauses.{told, none-free}
 use Rattle.board_record.specs.declared.Holding.the-variants.{All}
@@ -22,13 +22,13 @@ use Rattle.rules.specs.Statuses.{minusOf, numberOf}
 use Rattle.rules.specs.Numbers.{numberFor, decodeOf}
 use Rattle.rules.specs.Table.{ruleOf}
 use Rattle.rules.specs.Calls.{returned, says, noCaller, featuresOf, infoOf, describedOf, inventoryOf, arrivalOf, mayPrime, tryPrimeOf, trySameOf, primeBy, skips, skipRight, fieldsRight, joinOf, tryActivateOf, activateBy, isOther, cancelBy, cancelOf, offFree, offBy, wakeBy, onOf, functionOf, answerBy, answerOf, callOf}
-use Rattle.rules.specs.Reports.{isPriming, isActivating, activateAllows, primeReportOf, activateReportOf, imageOf}
+use Rattle.rules.specs.Reports.{isPriming, isActivating, activateAllows, endingOf, primeReportOf, activateReportOf, imageOf}
 use Rattle.rules.specs.Decide.{eventOf, decideOf}
 use Rattle.rules.specs.declared.Event.{Event}
 use Rattle.rules.specs.declared.Event.the-variants as event
 use Rattle.rules.specs.declared.Image.{Image}
 use Rattle.rules.specs.declared.Move.{Move}
-use Rattle.rules.specs.declared.Move.the-variants.{Refuse, Return, NoteInfo, StartPrime, Gather, StartTogether, StartAlone, ToIdle, PowerOff, PowerOn, EndPrime, EndActivate, NoteImage}
+use Rattle.rules.specs.declared.Move.the-variants.{Refuse, Return, NoteInfo, StartPrime, Gather, StartTogether, StartAlone, ToIdle, Withdraw, PowerOff, PowerOn, EndPrime, EndWithdrawn, EndActivate, NoteImage}
 use Rattle.rules.specs.declared.Refusal.{Refusal}
 use Rattle.rules.specs.declared.Refusal.the-variants.{NotWellFormed}
 use Rattle.rules.specs.declared.Registers.{Registers}
@@ -233,9 +233,10 @@ module _ (r : Record) (e : Event) (by : Called r e) where
   unfolding returned
   nothing a k v = made r e (Return _) (record { by = by; word = minus-word k; cancelled = λ c z. v; switched = λ c z. let q = sym a ∙ c in never cc })
 
-  cancel-cell : Asks call function.Cancel → isOther (r .state) (call .x1) ≡ false → (x : CancelCell) → CancelSays x (r .state) (call .x1) → Guard r e (cancelBy x)
+  cancel-cell : Asks call function.Cancel → isOther (r .state) (call .x1) ≡ false → (x : CancelCell) → CancelSays x (r .state) (call .x1) → Guard r e (cancelBy x (call .x1))
   unfolding minusOf
   cancel-cell a o cancel.ToIdle s = made r e ToIdle (record { by = by; asks = a; state = s o })
+  cancel-cell a o cancel.Withdraw s = made r e (Withdraw _) (record { by = by; asks = a; state = s o })
   cancel-cell a o (cancel.Answers k) s = ⊎-elim (nothing a k) (λ q. rw q (denied 2 refl)) s
   cancel-cell a o cancel.NoCaller s = nobody-calls s
 
@@ -303,13 +304,20 @@ module _ (r : Record) where
       (λ q. answer-guard r e (record { call = call; event = refl; exists = leb-false _ _ l; powered = p; free = q }) _ refl))
       (λ p. other r e _ refl))
 
+  ending-guard : (p : Report) → isPriming (r .state) (p .component) ≡ true → isPrimeCode (p .code) ≡ true → Guard r (event.Prime p) (endingOf (r .state) p)
+  ending-guard p t u =
+      let e = event.Prime p in
+      let running = jobs (r .state) (p .component) .0 t in
+      pick-cases (Guard r e) (isWithdrawn (r .state)) _ _
+      (λ w. made r e EndWithdrawn (record { report = p; event = refl; running = rw w at running; allowed = u }))
+      (λ w. made r e (EndPrime p) (record { event = refl; running = rw w at running; allowed = u }))
+
   prime-report-guard : (p : Report) → Guard r (event.Prime p) (primeReportOf r p)
   unfolding primeReportOf
   prime-report-guard p =
       let e = event.Prime p in
       pick-cases (Guard r e) (isPriming (r .state) (p .component)) _ _
-      (λ t. pick-cases (Guard r e) (isPrimeCode (p .code)) _ _
-      (λ u. made r e (EndPrime p) (record { event = refl; running = jobs (r .state) (p .component) .0 t; allowed = u })) (λ u. other r e _ refl))
+      (λ t. pick-cases (Guard r e) (isPrimeCode (p .code)) _ _ (ending-guard p t) (λ u. other r e _ refl))
       (λ t. other r e _ refl)
 
   activate-report-guard : (p : Report) → Guard r (event.Activate p) (activateReportOf r p)

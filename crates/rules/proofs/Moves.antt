@@ -13,23 +13,23 @@ use Rattle.codes.specs.Codes.{isPrimeCode}
 use Rattle.codes.specs.declared.Call.{Call}
 use Rattle.cpuset.specs.Set.{hasOf, onlyOf, withOf, sameOf}
 use Rattle.board.specs.Description.{numberedOf, isCapable, mayReset, goodEntry, entryRight}
-use Rattle.board_record.specs.Record.{isFor, holdingOf, isAlone, versionOf}
+use Rattle.board_record.specs.Record.{isFor, holdingOf, isAlone, isWithdrawn, versionOf}
 use Rattle.board_record.specs.WellFormed.{wellFormed}
 use Rattle.board_record.proofs.Clauses.{told, none-free}
 use Rattle.board_record.specs.declared.Holding.the-variants.{All}
 use Rattle.board_record.specs.declared.Record.{Record}
-use Rattle.rules.specs.Statuses.{numberOf}
+use Rattle.rules.specs.Statuses.{cancelledStatus, numberOf}
 use Rattle.rules.specs.Numbers.{decodeOf}
 use Rattle.rules.specs.Table.{ruleOf}
 use Rattle.rules.specs.Calls.{returned, noCaller, featuresOf, infoOf, inventoryOf, mayPrime, tryPrimeOf, trySameOf, primeBy, skips, fieldsRight, joinOf, tryActivateOf, activateBy, isOther, cancelBy, cancelOf, offFree, offBy, wakeBy, onOf, functionOf, answerBy, answerOf, callOf}
-use Rattle.rules.specs.Reports.{isPriming, isActivating, activateAllows, primeReportOf, activateReportOf, imageOf}
+use Rattle.rules.specs.Reports.{isPriming, isActivating, activateAllows, endingOf, primeReportOf, activateReportOf, imageOf}
 use Rattle.rules.specs.Decide.{eventOf, decideOf}
-use Rattle.rules.specs.Moves.{refusedWith, toldAs, primeStatus, activateStatus, numbersOf, rowsFor, eventRows, isTold, Decided}
+use Rattle.rules.specs.Moves.{refusedWith, toldAs, statusOf, activateStatus, numbersOf, rowsFor, eventRows, isTold, Decided}
 use Rattle.rules.specs.declared.Event.{Event}
 use Rattle.rules.specs.declared.Event.the-variants as event
 use Rattle.rules.specs.declared.Image.{Image}
 use Rattle.rules.specs.declared.Move.{Move}
-use Rattle.rules.specs.declared.Move.the-variants.{Refuse, Return, NoteInfo, StartPrime, Gather, StartTogether, StartAlone, ToIdle, PowerOff, PowerOn, EndPrime, EndActivate, NoteImage}
+use Rattle.rules.specs.declared.Move.the-variants.{Refuse, Return, NoteInfo, StartPrime, Gather, StartTogether, StartAlone, ToIdle, Withdraw, PowerOff, PowerOn, EndPrime, EndWithdrawn, EndActivate, NoteImage}
 use Rattle.rules.specs.declared.Refusal.{Refusal}
 use Rattle.rules.specs.declared.Refusal.the-variants.{NotWellFormed, TableShort, NoSuchCpu, CpuOff, CpuHeld, NoSuchJob, CodeNotAllowed, NotCapable, StateComponent}
 use Rattle.rules.specs.declared.cells.PrimeCell.{PrimeCell}
@@ -44,7 +44,7 @@ use Rattle.rules.specs.declared.numbers.Function.{Function}
 use Rattle.rules.specs.declared.numbers.Function.the-variants as function
 use Rattle.rules.specs.declared.numbers.Decoded.{Decoded}
 use Rattle.rules.specs.declared.numbers.Decoded.the-variants.{Known, Unknown}
-use Rattle.rules.proofs.States.{PrimeSays, ActivateSays, CancelSays, PowerSays, row-says}
+use Rattle.rules.proofs.States.{PrimeSays, ActivateSays, CancelSays, PowerSays, row-says, priming-is}
 use Rattle.rules.proofs.Admitted.{admitted-first}
 use Rattle.rules.proofs.Facts.{Facts}
 use Rattle.rules.proofs.Guards.{decide-guard}
@@ -107,9 +107,10 @@ module _ (r : Record) (call : Call) (some-free : holdingOf (r .state) ≡ All �
   activate-free (activate.Answers k) s = said _
   activate-free activate.NoCaller s = nobody s
 
-  cancel-free : (x : CancelCell) → CancelSays x (r .state) (call .x1) → Free (cancelBy x)
+  cancel-free : (x : CancelCell) → CancelSays x (r .state) (call .x1) → Free (cancelBy x (call .x1))
   unfolding toldAs
   cancel-free cancel.ToIdle s = free refl
+  cancel-free cancel.Withdraw s = free refl
   cancel-free (cancel.Answers k) s = said _
   cancel-free cancel.NoCaller s = nobody s
 
@@ -173,7 +174,8 @@ unfolding callOf answerOf primeReportOf activateReportOf imageOf toldAs
 of-event r (event.Call call) w =
     call-first (leb (r .board .cpus) (call .cpu)) (hasOf (r .on) (call .cpu)) (hasOf (r .held) (call .cpu)) _
     (λ on apart. answer-free r call (λ all. none-free r (told r w) all (call .cpu) on apart) (decodeOf (functionNumber (call .x0))) .none)
-of-event r (event.Prime p) w = report-first (isPriming (r .state) (p .component)) (isPrimeCode (p .code)) (EndPrime p) refl
+of-event r (event.Prime p) w =
+    report-first (isPriming (r .state) (p .component)) (isPrimeCode (p .code)) (endingOf (r .state) p) (either (isWithdrawn (r .state)) EndWithdrawn (EndPrime p) (free refl) (free refl) .none)
 of-event r (event.Activate p) w =
     report-first (isActivating (r .state) (p .component)) (activateAllows (isAlone (r .state)) (mayReset (r .board) (p .component)) (p .code)) (EndActivate p) refl
 of-event r (event.Image i) w = image-first (isCapable (r .board) (i .component)) (isFor (r .state) (i .component)) (NoteImage i) refl
@@ -195,13 +197,15 @@ refused-only (Gather a) d = absurd (d refl)
 refused-only (StartTogether a) d = absurd (d refl)
 refused-only (StartAlone a) d = absurd (d refl)
 refused-only ToIdle d = absurd (d refl)
+refused-only (Withdraw id) d = absurd (d refl)
 refused-only (PowerOff cpu) d = absurd (d refl)
 refused-only (PowerOn w) d = absurd (d refl)
 refused-only (EndPrime p) d = absurd (d refl)
+refused-only EndWithdrawn d = absurd (d refl)
 refused-only (EndActivate p) d = absurd (d refl)
 refused-only (NoteImage i) d = absurd (d refl)
 
-told-as : (r : Record) (e : Event) (m : Move) → Facts r e m → numbersOf m .refusal ≡ 0 → isTold e (numbersOf m) ≡ true
+told-as : (r : Record) (e : Event) (m : Move) → Facts r e m → numbersOf m .refusal ≡ 0 → isTold (r .state) e (numbersOf m) ≡ true
 unfolding refusedWith toldAs
 told-as r e (Refuse x) g z = absurd (eqb-false (numberOf x) 0 (number-some x) z)
 told-as r e (Return x) g z = rw (g .by .event)
@@ -211,9 +215,11 @@ told-as r e (Gather a) g z = rw (g .by .event)
 told-as r e (StartTogether a) g z = rw (g .by .event)
 told-as r e (StartAlone a) g z = rw (g .by .event)
 told-as r e ToIdle g z = rw (g .by .event)
+told-as r e (Withdraw id) g z = rw (g .by .event)
 told-as r e (PowerOff cpu) g z = rw (g .by .event)
 told-as r e (PowerOn w) g z = rw (g .by .event)
-told-as r e (EndPrime p) g z = rw (g .event) (eq-eqb (primeStatus (p .code)) _ refl)
+told-as r e (EndPrime p) g z = rw (g .event, priming-is (g .running)) (eq-eqb (statusOf (p .code)) _ refl)
+told-as r e EndWithdrawn g z = rw (g .event, priming-is (g .running)) (eq-eqb cancelledStatus _ refl)
 told-as r e (EndActivate p) g z = rw (g .event) (eq-eqb (activateStatus (p .code)) _ refl)
 told-as r e (NoteImage i) g z = rw (g .event)
 

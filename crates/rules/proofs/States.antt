@@ -2,16 +2,16 @@
 -- are about. All by cases of the state, and the table row by row (`row-says`). Assumes nothing.
 use Prim.Native.Nat.{ℕ}
 use mathlib.Core.Path.{_≡_, refl}
-use mathlib.Core.Bool.{true, false}
+use mathlib.Core.Bool.{Bool, true, false}
 use mathlib.Core.Logic.{_⊎_, inl, inr}
 use borrow.Author.Tests.{eqb-true, not-false}
 use Rattle.basics.specs.Choice.{not-both}
 use Rattle.board.specs.declared.Board.{Board}
-use Rattle.board_record.specs.Record.{subjectOf, isFor, holdingOf, isRendezvous, skipsRendezvous, isGathering, isAlone}
+use Rattle.board_record.specs.Record.{subjectOf, isFor, holdingOf, isRendezvous, skipsRendezvous, isGathering, isAlone, isWithdrawn}
 use Rattle.board_record.specs.WellFormed.{keepsEntries}
-use Rattle.board_record.specs.declared.Holding.the-variants.{Nobody, All}
+use Rattle.board_record.specs.declared.Holding.the-variants.{Nobody, One, All}
 use Rattle.board_record.specs.declared.State.{State}
-use Rattle.board_record.specs.declared.State.the-variants.{Idle, Preparing, HalfPrepared, Ready, Gathering, Together, Alone, HalfActivated, Dead}
+use Rattle.board_record.specs.declared.State.the-variants.{Idle, Preparing, HalfPrepared, Ready, Gathering, Together, Alone, HalfActivated, Dead, Withdrawn}
 use Rattle.board_record.specs.declared.Subject.the-variants as subject
 use Rattle.rules.specs.Calls.{isOther}
 use Rattle.rules.specs.Reports.{isPriming, isActivating}
@@ -32,9 +32,10 @@ pub data Primable : State → ℕ → Type 0 where
   primed-first : {id : ℕ} → Primable Idle id
   primed-again : {id : ℕ} → Primable (HalfPrepared id) id
 
--- a prime job is running for it
-pub data Priming : State → ℕ → Type 0 where
-  priming-now : {id : ℕ} → Priming (Preparing id) id
+-- a prime job is running for it, withdrawn or not
+pub data Priming : State → ℕ → Bool → Type 0 where
+  priming-now : {id : ℕ} → Priming (Preparing id) id false
+  priming-withdrawn : {id : ℕ} → Priming (Withdrawn id) id true
 
 -- ACTIVATE is tried
 pub data Tried : State → Type 0 where
@@ -65,10 +66,11 @@ pub data Cancellable : State → ℕ → Type 0 where
   cancel-gathering : {id : ℕ} → Cancellable (Gathering id) id
   cancel-half-activated : {id : ℕ} → Cancellable (HalfActivated id) id
 
--- there is no component, so a CANCEL finds nothing to end
+-- a CANCEL finds nothing to end: there is no component, or it is withdrawn already
 pub data Vacant : State → Type 0 where
   vacant-idle : Vacant Idle
   vacant-dead : Vacant Dead
+  vacant-withdrawn : {c : ℕ} → Vacant (Withdrawn c)
 
 -- power calls are free
 pub data PowerFree : State → Type 0 where
@@ -77,6 +79,7 @@ pub data PowerFree : State → Type 0 where
   free-half-prepared : {c : ℕ} → PowerFree (HalfPrepared c)
   free-ready : {c : ℕ} → PowerFree (Ready c)
   free-dead : PowerFree Dead
+  free-withdrawn : {c : ℕ} → PowerFree (Withdrawn c)
 
 -- ---- what they are
 
@@ -100,8 +103,19 @@ pub gather-subject : {s : State} {id : ℕ} → Gatherable s id → subjectOf s 
 gather-subject first-one = refl
 gather-subject one-more = refl
 
-pub priming-subject : {s : State} {id : ℕ} → Priming s id → subjectOf s ≡ subject.Of id
+pub priming-subject : {s : State} {id : ℕ} {withdrawn : Bool} → Priming s id withdrawn → subjectOf s ≡ subject.Of id
 priming-subject priming-now = refl
+priming-subject priming-withdrawn = refl
+
+-- it holds one and keeps no entries
+pub priming-holds : {s : State} {id : ℕ} {withdrawn : Bool} (b : Board) → Priming s id withdrawn → (holdingOf s ≡ One) × (keepsEntries b s ≡ false)
+priming-holds b priming-now = (refl, refl)
+priming-holds b priming-withdrawn = (refl, refl)
+
+-- which of the two it is
+pub priming-is : {s : State} {id : ℕ} {withdrawn : Bool} → Priming s id withdrawn → isWithdrawn s ≡ withdrawn
+priming-is priming-now = refl
+priming-is priming-withdrawn = refl
 
 pub activating-subject : {s : State} {id : ℕ} → Activating s id → (subjectOf s ≡ subject.Of id) × (skipsRendezvous s ≡ isAlone s)
 activating-subject activating-together = (refl, refl)
@@ -114,13 +128,14 @@ free-apart free-preparing = refl
 free-apart free-half-prepared = refl
 free-apart free-ready = refl
 free-apart free-dead = refl
+free-apart free-withdrawn = refl
 
 -- ---- what a test says of the state
 no-job : {A : Type 0} → false ≡ true → A
 no-job e = absurd (not-both e refl)
 
 -- that of a report
-pub jobs : (s : State) (id : ℕ) → (isPriming s id ≡ true → Priming s id) × (isActivating s id ≡ true → Activating s id)
+pub jobs : (s : State) (id : ℕ) → (isPriming s id ≡ true → Priming s id (isWithdrawn s)) × (isActivating s id ≡ true → Activating s id)
 jobs Idle id = (no-job, no-job)
 jobs (Preparing c) id = (λ e. rw (eqb-true c id e) priming-now, no-job)
 jobs (HalfPrepared c) id = (no-job, no-job)
@@ -130,6 +145,7 @@ jobs (Together c) id = (no-job, λ e. rw (eqb-true c id e) activating-together)
 jobs (Alone c) id = (no-job, λ e. rw (eqb-true c id e) activating-alone)
 jobs (HalfActivated c) id = (no-job, no-job)
 jobs Dead id = (no-job, no-job)
+jobs (Withdrawn c) id = (λ e. rw (eqb-true c id e) priming-withdrawn, no-job)
 
 -- those of an ACTIVATE that is tried, without skip and with it
 pub gatherable : {s : State} (id : ℕ) → Tried s → isFor s id ≡ true → skipsRendezvous s ≡ false → Gatherable s id
@@ -158,6 +174,7 @@ ActivateSays activate.NoCaller s = holdingOf s ≡ All
 
 abbrev pub CancelSays : CancelCell → State → ℕ → Type 0
 CancelSays cancel.ToIdle s id = isOther s id ≡ false → Cancellable s id
+CancelSays cancel.Withdraw s id = isOther s id ≡ false → Priming s id false
 CancelSays (cancel.Answers k) s id = Vacant s ⊎ (k ≡ 2)
 CancelSays cancel.NoCaller s id = holdingOf s ≡ All
 
@@ -170,7 +187,7 @@ PowerSays power.NoCaller s = holdingOf s ≡ All
 pub row-says : (s : State) (id : ℕ)
     → PrimeSays (ruleOf s .prime) s id × ActivateSays (ruleOf s .activate) s × CancelSays (ruleOf s .cancel) s id × PowerSays (ruleOf s .power) s
 row-says Idle id = (primed-first, tt, inl vacant-idle, free-idle)
-row-says (Preparing c) id = (tt, tt, inr refl, free-preparing)
+row-says (Preparing c) id = (tt, tt, λ o. rw (eqb-true c id (not-false _ o)) priming-now, free-preparing)
 row-says (HalfPrepared c) id =
     (λ e. rw (eqb-true c id e) primed-again, tt, λ o. rw (eqb-true c id (not-false _ o)) cancel-half-prepared, free-half-prepared)
 row-says (Ready c) id = (tt, tried-ready, λ o. rw (eqb-true c id (not-false _ o)) cancel-ready, free-ready)
@@ -180,3 +197,4 @@ row-says (Alone c) id = (tt, tried-alone, inr refl, tt)
 row-says (HalfActivated c) id =
     (tt, tried-half-activated, λ o. rw (eqb-true c id (not-false _ o)) cancel-half-activated, tt)
 row-says Dead id = (tt, tt, inl vacant-dead, free-dead)
+row-says (Withdrawn c) id = (tt, tt, inl vacant-withdrawn, free-withdrawn)

@@ -24,7 +24,7 @@ use Rattle.rules.specs.declared.Registers.{Registers}
 use Rattle.rules.specs.declared.Arrival.{Arrival}
 use Rattle.rules.specs.declared.Refusal.the-variants.{NotWellFormed, NoSuchCpu, CpuOff, CpuHeld}
 use Rattle.rules.specs.declared.Move.{Move}
-use Rattle.rules.specs.declared.Move.the-variants.{Refuse, Return, NoteInfo, StartPrime, Gather, StartTogether, StartAlone, ToIdle, PowerOff, PowerOn}
+use Rattle.rules.specs.declared.Move.the-variants.{Refuse, Return, NoteInfo, StartPrime, Gather, StartTogether, StartAlone, ToIdle, Withdraw, PowerOff, PowerOn}
 use Rattle.rules.specs.declared.cells.PrimeCell.{PrimeCell}
 use Rattle.rules.specs.declared.cells.PrimeCell.the-variants as prime
 use Rattle.rules.specs.declared.cells.ActivateCell.{ActivateCell}
@@ -167,7 +167,8 @@ activateBy activate.NoCaller r call = noCaller
 abbrev pub activateOf : Record → Call → Move
 activateOf r call = activateBy (ruleOf (r .state) .activate) r call
 
--- ---- CANCEL: the id counts only where the state has a component, and before the cell (Calls 26 and 27)
+-- ---- CANCEL: the id counts only where the state has a component, and before the cell (Calls 26 and 27); in preparing "the state
+-- becomes withdrawn" (request 3)
 abbrev pub isOtherThan : Subject → ℕ → Bool
 isOtherThan subject.Nothing id = false
 isOtherThan (subject.Of c) id = not (eqb c id)
@@ -175,13 +176,14 @@ isOtherThan (subject.Of c) id = not (eqb c id)
 abbrev pub isOther : State → ℕ → Bool
 isOther s id = isOtherThan (subjectOf s) id
 
-abbrev pub cancelBy : CancelCell → Move
-cancelBy cancel.ToIdle = ToIdle
-cancelBy (cancel.Answers k) = says k
-cancelBy cancel.NoCaller = noCaller
+abbrev pub cancelBy : CancelCell → ℕ → Move
+cancelBy cancel.ToIdle id = ToIdle
+cancelBy cancel.Withdraw id = Withdraw id
+cancelBy (cancel.Answers k) id = says k
+cancelBy cancel.NoCaller id = noCaller
 
 unfoldable pub cancelOf : Record → Call → Move
-cancelOf r call = pick (isOther (r .state) (call .x1)) (says 8) (cancelBy (ruleOf (r .state) .cancel))
+cancelOf r call = pick (isOther (r .state) (call .x1)) (says 8) (cancelBy (ruleOf (r .state) .cancel) (call .x1))
 
 -- ---- CPU_OFF: -3 also for the last CPU (Calls 29, H)
 unfoldable pub offFree : Record → ℕ → Move

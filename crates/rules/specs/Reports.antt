@@ -7,18 +7,18 @@ use Rattle.basics.specs.Choice.{pick}
 use Rattle.basics.specs.Every.{oneOf}
 use Rattle.codes.specs.Codes.{byReset, isPrimeCode, isActivateCode}
 use Rattle.board.specs.Description.{isCapable, mayReset}
-use Rattle.board_record.specs.Record.{isFor, placeOf, togetherPlace, alonePlace, isPreparing, isAlone}
+use Rattle.board_record.specs.Record.{isFor, placeOf, togetherPlace, alonePlace, hasPrimeJob, isWithdrawn, isAlone}
 use Rattle.board_record.specs.declared.Record.{Record}
 use Rattle.board_record.specs.declared.State.{State}
 use Rattle.rules.specs.declared.Report.{Report}
 use Rattle.rules.specs.declared.Image.{Image}
 use Rattle.rules.specs.declared.Refusal.the-variants.{NoSuchJob, CodeNotAllowed, NotCapable, StateComponent}
 use Rattle.rules.specs.declared.Move.{Move}
-use Rattle.rules.specs.declared.Move.the-variants.{Refuse, EndPrime, EndActivate, NoteImage}
+use Rattle.rules.specs.declared.Move.the-variants.{Refuse, EndPrime, EndWithdrawn, EndActivate, NoteImage}
 
--- "preparing (job)" (Calls 12): a prime job is running for component id
+-- "preparing (job)" (Calls 12), and withdrawn (request 3): a prime job is running for component id
 abbrev pub isPriming : State → ℕ → Bool
-isPriming s id = isPreparing s && isFor s id
+isPriming s id = hasPrimeJob s && isFor s id
 
 -- "together (job)", "alone (job)" (Calls 16 and 17): an activate job is
 abbrev pub isActivating : State → ℕ → Bool
@@ -35,11 +35,15 @@ activateAllows alone reset code =
     (pick (eqb code byReset) (resumesOf alone reset)
     (isActivateCode code))
 
+-- a withdrawn preparation ends as such with "Any allowed prime report" (request 3)
+abbrev pub endingOf : State → Report → Move
+endingOf s p = pick (isWithdrawn s) EndWithdrawn (EndPrime p)
+
 -- 5, then 6 (Events 12)
 unfoldable pub primeReportOf : Record → Report → Move
 primeReportOf r p =
     pick (isPriming (r .state) (p .component))
-    (pick (isPrimeCode (p .code)) (EndPrime p)
+    (pick (isPrimeCode (p .code)) (endingOf (r .state) p)
     (Refuse CodeNotAllowed))
     (Refuse NoSuchJob)
 

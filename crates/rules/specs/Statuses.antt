@@ -9,6 +9,10 @@ use Rattle.rules.specs.declared.Refusal.the-variants.{NotWellFormed, Tab
 unfoldable pub minusOf : ℕ → ℕ
 minusOf k = pick (eqb k 0) 0 (2 ^ 64 - k)
 
+-- what those get who wait where a CANCEL ends it (Calls 28; request 3)
+abbrev pub cancelledStatus : ℕ
+cancelledStatus = minusOf 11
+
 -- document 01's number of each refusal
 abbrev pub numberOf : Refusal → ℕ
 numberOf NotWellFormed = 9

@@ -1,10 +1,10 @@
--- The table of rules (document 01, "Calls", from Calls 9 to 19). Assumes nothing.
+-- The table of rules (document 01, "Calls", from Calls 9 to 19; CANCEL in preparing and the last row: request 3). Assumes nothing.
 use Prim.Native.Nat.{ℕ}
 use mathlib.Core.List.{map}
 use lib.ListN.{getD}
 use Rattle.board_record.specs.Record.{inOrder}
 use Rattle.board_record.specs.declared.State.{State}
-use Rattle.board_record.specs.declared.State.the-variants.{Idle, Preparing, HalfPrepared, Ready, Gathering, Together, Alone, HalfActivated, Dead}
+use Rattle.board_record.specs.declared.State.the-variants.{Idle, Preparing, HalfPrepared, Ready, Gathering, Together, Alone, HalfActivated, Dead, Withdrawn}
 use Rattle.rules.specs.declared.cells.PrimeCell.{PrimeCell}
 use Rattle.rules.specs.declared.cells.PrimeCell.the-variants as prime
 use Rattle.rules.specs.declared.cells.ActivateCell.{ActivateCell}
@@ -22,7 +22,7 @@ cells p a c w = record { prime = p; activate = a; cancel = c; power = w }
 -- | State | PRIME | ACTIVATE | CANCEL | OFF, ON |
 abbrev pub ruleOf : State → Row
 ruleOf Idle = cells prime.Try (activate.Answers 7) (cancel.Answers 0) power.Free
-ruleOf (Preparing c) = cells (prime.Answers 2) (activate.Answers 7) (cancel.Answers 2) power.Free
+ruleOf (Preparing c) = cells (prime.Answers 2) (activate.Answers 7) cancel.Withdraw power.Free
 ruleOf (HalfPrepared c) = cells prime.TrySame (activate.Answers 7) cancel.ToIdle power.Free
 ruleOf (Ready c) = cells (prime.Answers 7) activate.Try cancel.ToIdle power.Free
 ruleOf (Gathering c) = cells (prime.Answers 7) activate.Try cancel.ToIdle power.Frozen
@@ -30,6 +30,7 @@ ruleOf (Together c) = cells prime.NoCaller activate.NoCaller cancel.NoCaller pow
 ruleOf (Alone c) = cells (prime.Answers 7) activate.Try (cancel.Answers 2) power.Frozen
 ruleOf (HalfActivated c) = cells (prime.Answers 7) activate.Try cancel.ToIdle power.Frozen
 ruleOf Dead = cells (prime.Answers 7) (activate.Answers 7) (cancel.Answers 0) power.Free
+ruleOf (Withdrawn c) = cells (prime.Answers 2) (activate.Answers 7) (cancel.Answers 0) power.Free
 
 -- the code's table has a row for each of the states in order; no state asks for a row past the last: the first cell of each kind
 -- there is the kit's reading of an array past its end

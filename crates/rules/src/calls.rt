@@ -293,6 +293,7 @@ fn cancel(rec: Record, call: Call) -> Move
     let cell = row.cancel;
     match cell {
         CancelCell::ToIdle => Move::ToIdle,
+        CancelCell::Withdraw => Move::Withdraw(call.x1),
         CancelCell::Answers(k) => say(k),
         CancelCell::NoCaller => no_caller(),
     }

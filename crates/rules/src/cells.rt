@@ -22,6 +22,7 @@ pub enum ActivateCell {
 
 pub enum CancelCell {
     ToIdle,
+    Withdraw,
     Answers(u64),
     NoCaller,
 }
@@ -51,7 +52,7 @@ const RULES: [Row; STATES] = [
     Row {
         prime: PrimeCell::Answers(2),
         activate: ActivateCell::Answers(7),
-        cancel: CancelCell::Answers(2),
+        cancel: CancelCell::Withdraw,
         power: PowerCell::Free,
     },
     // half-prepared
@@ -99,6 +100,13 @@ const RULES: [Row; STATES] = [
     // dead
     Row {
         prime: PrimeCell::Answers(7),
+        activate: ActivateCell::Answers(7),
+        cancel: CancelCell::Answers(0),
+        power: PowerCell::Free,
+    },
+    // withdrawn
+    Row {
+        prime: PrimeCell::Answers(2),
         activate: ActivateCell::Answers(7),
         cancel: CancelCell::Answers(0),
         power: PowerCell::Free,

@@ -88,9 +88,11 @@ pub enum Move {
     StartTogether(Arrival),
     StartAlone(Arrival),
     ToIdle,
+    Withdraw(u64),
     PowerOff(u64),
     PowerOn(Waking),
     EndPrime(Report),
+    EndWithdrawn,
     EndActivate(Report),
     NoteImage(Image),
 }

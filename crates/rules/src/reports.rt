@@ -8,30 +8,41 @@ use board_record::PREPARING;
 use board_record::Record;
 use board_record::State;
 use board_record::TOGETHER;
+use board_record::WITHDRAWN;
 use codes::BY_RESET;
 ghost use mathlib.Core.Path.{_≡_};
-ghost use Rattle.rules.specs.Reports.{isPriming, isActivating, resumesOf, activateAllows, primeReportOf, activateReportOf, imageOf};
+ghost use mathlib.Core.Bool.{_&&_};
+ghost use mathlib.Core.List.{[], _∷_};
+ghost use Rattle.basics.specs.Every.{oneOf};
+ghost use Rattle.board_record.specs.Record.{placeOf, isFor};
+ghost use Rattle.rules.specs.Reports.{isPriming, isActivating, resumesOf, activateAllows, endingOf, primeReportOf, activateReportOf, imageOf};
 
-// A prime job is running for component id.
+// A job is running for component id: the state is one of two, and about it.
+fn is_running(s: State, id: u64, one: usize, other: usize) -> bool
+    ensures { λ r. ⌜ r ≡ (oneOf (placeOf s) (one ∷ other ∷ []) && isFor s id) ⌝ }
+{
+    let place = board_record::place_of(s);
+    if place == one {
+        return board_record::is_for(s, id);
+    }
+    if place == other {
+        return board_record::is_for(s, id);
+    }
+    false
+}
+
+// A prime job, withdrawn or not.
 fn is_priming(s: State, id: u64) -> bool
     ensures { λ r. ⌜ r ≡ isPriming s id ⌝ }
 {
-    if board_record::place_of(s) == PREPARING {
-        board_record::is_for(s, id)
-    } else {
-        false
-    }
+    is_running(s, id, PREPARING, WITHDRAWN)
 }
 
-// An activate job is running for component id.
+// An activate job, with rendezvous or without.
 fn is_activating(s: State, id: u64) -> bool
     ensures { λ r. ⌜ r ≡ isActivating s id ⌝ }
 {
-    match board_record::place_of(s) {
-        TOGETHER => board_record::is_for(s, id),
-        ALONE => board_record::is_for(s, id),
-        _ => false,
-    }
+    is_running(s, id, TOGETHER, ALONE)
 }
 
 // In together with may_reset.
@@ -51,13 +62,24 @@ fn activate_allows(alone: bool, reset: bool, code: u64) -> bool
     }
 }
 
+// A withdrawn preparation ends as such, however its job went.
+fn ending(s: State, report: Report) -> Move
+    ensures { λ r. ⌜ r ≡ endingOf s report ⌝ }
+{
+    if board_record::place_of(s) == WITHDRAWN {
+        Move::EndWithdrawn
+    } else {
+        Move::EndPrime(report)
+    }
+}
+
 pub(crate) fn prime(rec: Record, report: Report) -> Move
     ensures { λ r. ⌜ r ≡ primeReportOf rec report ⌝ }
 {
     let s = rec.state;
     if is_priming(s, report.component) {
         if codes::is_prime_code(report.code) {
-            return Move::EndPrime(report);
+            return ending(s, report);
         }
         return Move::Refuse(Refusal::CodeNotAllowed);
     }

@@ -50,6 +50,7 @@ pub(crate) fn because(x: Reason) {
         Reason::BeingPrepared(c) => about(b"returned -7: component ", c, b" is being prepared"),
         Reason::HalfPrepared(c) => about(b"returned -7: component ", c, b" is half prepared"),
         Reason::BoardDead => text(b"returned -7: the board is dead"),
+        Reason::WasWithdrawn(c) => about(b"returned -7: component ", c, b" was withdrawn"),
         Reason::OtherComponent(c) => about(b"returned -8: X1 is not component ", c, b""),
         Reason::OtherFlags => text(b"returned -8: flags above bit 0"),
         Reason::NotOptional => text(b"returned -8: skip on a component that is not optional"),

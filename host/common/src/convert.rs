@@ -27,6 +27,9 @@ pub fn refusal_of<T>(result: &Result<T, Refusal>) -> u64 {
     }
 }
 
+/// How many states there are; their numbers are below it.
+pub const STATES: usize = 10;
+
 /// The number of a state and its component, 0 where it has none.
 fn state_numbers(state: State) -> (u64, u64) {
     match state {
@@ -39,6 +42,7 @@ fn state_numbers(state: State) -> (u64, u64) {
         State::Alone(id) => (6, id),
         State::HalfActivated(id) => (7, id),
         State::Dead => (8, 0),
+        State::Withdrawn(id) => (9, id),
     }
 }
 
@@ -54,6 +58,7 @@ fn state(number: u64, subject: u64) -> Option<State> {
         6 => State::Alone(subject),
         7 => State::HalfActivated(subject),
         8 if subject == 0 => State::Dead,
+        9 => State::Withdrawn(subject),
         _ => return None,
     })
 }
@@ -405,6 +410,20 @@ pub fn flat_prepared(prepared: Result<Prepared, Flaw>) -> flat::Prepared {
     }
 }
 
+pub fn flat_cpus_at(told: Result<CpuSet, Flaw>) -> flat::CpusAt {
+    match told {
+        Ok(cpus) => flat::CpusAt {
+            cpus: flat_cpus(cpus),
+            ..flat::CpusAt::default()
+        },
+        Err(flaw) => flat::CpusAt {
+            refusal: flaw.refusal.number(),
+            place: flaw.place,
+            ..flat::CpusAt::default()
+        },
+    }
+}
+
 pub fn flat_started(started: Result<Option<u64>, Flaw>) -> flat::Started {
     match started {
         Ok(started) => flat::Started {
@@ -458,6 +477,7 @@ fn reason_numbers(reason: Reason) -> (u64, u64, CpuSet) {
         Reason::Skipped => (12, 0, nobody),
         Reason::Held(missing) => (13, 0, missing),
         Reason::AllPresent => (14, 0, nobody),
+        Reason::Withdrawn(id) => (15, id, nobody),
     }
 }
 

@@ -85,7 +85,7 @@ pub fn event(dice: &mut Dice, record: &Record, mood: &Mood) -> Event {
 /// reports, since calls do not end it.
 pub fn noise(dice: &mut Dice, record: &Record) -> Event {
     let job = match record.state {
-        State::Preparing(_) => 0,
+        State::Preparing(_) | State::Withdrawn(_) => 0,
         State::Together(_) | State::Alone(_) => 1,
         _ => 15,
     };
@@ -110,14 +110,17 @@ fn onward(dice: &mut Dice, record: &Record, mood: &Mood) -> Event {
             _ => Event::Image(image(dice, record)),
         },
         State::HalfPrepared(_) => simple(dice, free, Function::Prime, own),
-        State::Preparing(_) => Event::Prime(Report {
-            component: own,
-            code: prime_code(dice),
-        }),
+        State::Preparing(_) if !free.is_empty() && dice.one_in(8) => {
+            simple(dice, free, Function::Cancel, own)
+        }
         // Few come here, so there is time to try calls.
-        State::Alone(_) | State::HalfActivated(_) if dice.one_in(2) => {
+        State::Alone(_) | State::HalfActivated(_) | State::Withdrawn(_) if dice.one_in(2) => {
             Event::Call(any_call(dice, record))
         }
+        State::Preparing(_) | State::Withdrawn(_) => Event::Prime(Report {
+            component: own,
+            code: prime_code(dice, record.state),
+        }),
         State::Together(_) | State::Alone(_) => Event::Activate(Report {
             component: own,
             code: activate_code(dice),
@@ -134,12 +137,11 @@ fn pending(dice: &mut Dice, record: &Record) -> Option<u64> {
     dice.member((0..record.board.components).filter(|&id| record.pending[id as usize]))
 }
 
-/// Mostly done, so that walks get on.
-fn prime_code(dice: &mut Dice) -> u64 {
-    if dice.one_in(4) {
-        dice.one_of(&PRIME_CODES)
-    } else {
-        0
+/// Mostly done, so that walks get on. Where it was withdrawn, each as often.
+fn prime_code(dice: &mut Dice, state: State) -> u64 {
+    match state {
+        State::Preparing(_) if !dice.one_in(4) => 0,
+        _ => dice.one_of(&PRIME_CODES),
     }
 }
 

@@ -6,7 +6,7 @@
 use crate::boards::{described, usual, OPTIONAL, PLAIN, SVN};
 use crate::convert::*;
 use crate::events::*;
-use crate::pair::{self, ask_prepared, ask_starts, ask_why, read_board, same, write};
+use crate::pair::{self, ask_cpus, ask_prepared, ask_starts, ask_why, read_board, same, write};
 use lfa::{
     code, flat, Activate, Answer, Board, Call, Caller, Cpus, Event, Flaw, LogRecord, Prepared,
     Reason, Record, Refusal, Registers, Release, RECORD_BYTES,
@@ -45,6 +45,12 @@ pub fn fresh(board: &[u8]) -> Result<Record, Refusal> {
 pub fn prepared_at(log: &[u8], place: usize) -> Result<Prepared, Flaw> {
     let _ = ask_prepared(&"a log", log, place);
     lfa::prepared_at(log, place)
+}
+
+/// The powered CPUs and the held ones at a place of a log, on both sides.
+pub fn cpus_at(log: &[u8], place: usize) -> [Result<Cpus, Flaw>; 2] {
+    let _ = ask_cpus(&"a log", log, place);
+    [lfa::powered_at(log, place), lfa::held_at(log, place)]
 }
 
 /// What starts at a call made at a place of a log, on both sides.
@@ -212,6 +218,13 @@ impl Host {
         self
     }
 
+    /// CPU 1, which has to be on, cancels what CPU 0 prepares.
+    pub fn withdrawn(self, component: u64) -> Host {
+        let mut host = self.preparing(component);
+        host.returns(1, cancel(component), 0);
+        host
+    }
+
     pub fn half_prepared(self, component: u64) -> Host {
         let mut host = self.preparing(component);
         host.take(prime_report(component, code::AGAIN));
@@ -266,7 +279,7 @@ impl Host {
 
 /// A host in each state, with CPUs 0 and 1 on; the states that can be about
 /// any component are about this one, which is plain or resets.
-pub fn in_every_state(component: u64) -> [Host; 9] {
+pub fn in_every_state(component: u64) -> [Host; STATES] {
     let with_two = |host: Host| host.powered(2);
     [
         with_two(Host::usual()),
@@ -278,5 +291,6 @@ pub fn in_every_state(component: u64) -> [Host; 9] {
         Host::usual().alone(),
         Host::usual().half_activated(),
         Host::usual().dead(),
+        with_two(Host::usual()).withdrawn(component),
     ]
 }

@@ -9,3 +9,4 @@ pub mod events;
 pub mod generate;
 pub mod host;
 pub mod pair;
+pub mod walk;

@@ -268,6 +268,7 @@ pub fn log(
 /// where the question is about one.
 pub fn ask(at: &impl Display, board: &[u8], log: &[u8], place: usize, call: &Call) {
     let _ = ask_prepared(at, log, place);
+    let _ = ask_cpus(at, log, place);
     let _ = ask_starts(at, board, log, place, call);
     let _ = ask_why(at, board, log, place, &without_x0(call));
 }
@@ -305,6 +306,27 @@ pub fn ask_prepared(at: &impl Display, log: &[u8], place: usize) -> Result<Prepa
         &(place, flat_prepared(expected)),
     );
     expected
+}
+
+/// The powered CPUs and the held ones at a place, on both sides.
+pub fn ask_cpus(at: &impl Display, log: &[u8], place: usize) -> Result<[CpuSet; 2], Flaw> {
+    let expected = [powered_at(log, place), held_at(log, place)];
+    same(
+        at,
+        "powered and held",
+        &(place, [flat::powered(log, place), flat::held(log, place)]),
+        &(place, expected.map(flat_cpus_at)),
+    );
+    let [powered, held] = expected;
+    Ok([powered?, held?])
+}
+
+/// Where a log led to this record: the CPUs that the log says are powered and
+/// held are the record's.
+pub fn check_cpus(at: &impl Display, record: &Record, log: &[u8], place: usize) {
+    let told = ask_cpus(at, log, place);
+    let expected = Ok([record.on, record.held]);
+    same(at, "by the log and by the record", &told, &expected);
 }
 
 /// What starts at a call, on both sides.
@@ -352,7 +374,6 @@ pub fn ask_why(
 pub fn check_why(
     at: &impl Display,
     record: &Record,
-    board: &[u8],
     log: &[u8],
     place: usize,
     ask: &Activate,
@@ -366,9 +387,9 @@ pub fn check_why(
     let refused = |refusal| Flaw { refusal, place: 0 };
     let given = caller.map_err(refused);
     same(at, "why and step", &why.map(named_by), &given);
-    let (board, reading) = reading_at(board, log, place).expect("a good log");
+    let reading = reading_at(log, place).expect("a good log");
     let all_present = why == Ok(Reason::AllPresent);
-    let starts = reading.starts(&board, &call).is_some();
+    let starts = reading.starts(&record.board, &call).is_some();
     same(at, "why and starts", &all_present, &starts);
     if let Ok(Reason::Held(missing)) = why {
         let (powered, held) = (reading.powered, reading.held());
@@ -383,9 +404,11 @@ pub fn check_why(
 fn named_by(reason: Reason) -> Caller {
     let returned = |k| Caller::Returned([status(k), 0, 0, 0]);
     match reason {
-        Reason::NothingPrepared | Reason::Preparing(_) | Reason::HalfPrepared(_) | Reason::Dead => {
-            returned(7)
-        }
+        Reason::NothingPrepared
+        | Reason::Preparing(_)
+        | Reason::HalfPrepared(_)
+        | Reason::Dead
+        | Reason::Withdrawn(_) => returned(7),
         Reason::OtherComponent(_)
         | Reason::OtherFlags
         | Reason::NotOptional

@@ -2,9 +2,9 @@
 //! change it, and the log of those events.
 //!
 //! [`Record::step`] takes one event. [`logged`] makes the log record of an
-//! accepted one. [`prepared_at`] and [`starts_at`] answer questions from a log
-//! alone. [`why_at`] takes a log's events through the rules, and names the rule
-//! that an ACTIVATE meets there.
+//! accepted one. [`prepared_at`], [`starts_at`], [`powered_at`] and [`held_at`]
+//! answer questions from a log alone. [`why_at`] takes a log's events through
+//! the rules, and names the rule that an ACTIVATE meets there.
 //!
 //! # Open points
 //!
@@ -25,6 +25,16 @@
 //!   so does ACTIVATE in the -7 rows, even for an id that is no component.
 //! - A dead board answers all other calls, and takes images, as an idle one.
 //!
+//! A preparation that is cancelled while its job runs (request 3):
+//! - The CANCEL releases nobody, and the image stays pending. What comes after
+//!   the first one changes nothing: the same id gets 0 again, another one -8.
+//! - Which of the allowed codes the report has does not matter: the board is
+//!   idle, and the held caller goes on with -11 and 0. Then nothing is left of
+//!   the CANCEL, and the component can be primed again.
+//! - The held caller is on, so the only other CPU may still go off.
+//! - Word 6 of a prime report says something of code 0 alone, and by itself: no
+//!   CANCEL has to stand before it. With code 1 nothing is decided.
+//!
 //! Records:
 //! - A noted GET_INFO fits any state.
 //! - Context ids of held CPUs may be anything, where they are kept.
@@ -44,12 +54,14 @@
 //! - Without a deciding record before the place, all records before it were
 //!   looked at, and none is prepared.
 //! - A bad record is found anywhere in the log, after the place too.
-//! - [`starts_at`] gives a board's refusal with place 0.
+//! - [`starts_at`] gives a board's refusal with place 0. [`powered_at`] and
+//!   [`held_at`] take no board.
 //! - Only logs that no agent writes are touched by the rest. What becomes of a
 //!   caller goes by the outcome alone: held and activation started hold it for
 //!   ACTIVATE, prime started for PRIME, gone powers it off. A CPU_ON that
 //!   returned 0 powers its target, any number, whatever the board; no record
-//!   can say that one of 64 or more became held, so nothing starts after it.
+//!   can say that one of 64 or more became held, so nothing starts after it, and
+//!   it is in no set. A CPU that goes off while it is held stays held.
 //!   An activation without rendezvous is an outcome 4 with bit 0 of X2 set. A
 //!   prepared component that the board does not have never starts. One that it
 //!   has need not be capable, since a log is taken at its word.
@@ -80,8 +92,9 @@
 //! X2 of an outcome 4, whatever the function. Nor is it on two points of
 //! [`why_at`] that follow these choices too: place 0 where no record is to
 //! blame, and the component of [`Reason::OtherComponent`]. The list of reasons
-//! and the order of its refusals are one wording of request 1 on both sides: that
-//! they agree shows no slip, and not that the request was read right.
+//! and the order of its refusals are one wording of request 1 on both sides, and
+//! so are the reason of withdrawn and what [`powered_at`] and [`held_at`] refuse:
+//! that they agree shows no slip, and not that the requests were read right.
 
 mod answer;
 mod board;

@@ -24,6 +24,8 @@ pub enum State {
     HalfActivated(u64),
     /// An activation failed beyond repair.
     Dead,
+    /// A prime job runs whose preparation was cancelled.
+    Withdrawn(u64),
 }
 
 impl State {
@@ -38,7 +40,8 @@ impl State {
             | Self::Gathering(id)
             | Self::Together(id)
             | Self::Alone(id)
-            | Self::HalfActivated(id) => Some(id),
+            | Self::HalfActivated(id)
+            | Self::Withdrawn(id) => Some(id),
         }
     }
 }
@@ -101,7 +104,7 @@ impl Record {
         let (on, held) = (self.on, self.held);
         let held_as_they_should = held.is_part_of(on)
             && match self.state {
-                State::Preparing(_) | State::Alone(_) => held.count() == 1,
+                State::Preparing(_) | State::Withdrawn(_) | State::Alone(_) => held.count() == 1,
                 State::Gathering(_) => !held.is_empty() && held.is_proper_part_of(on),
                 State::Together(_) => held == on,
                 State::Idle

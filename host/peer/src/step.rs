@@ -115,7 +115,7 @@ impl Record {
         match self.state {
             State::Idle => {}
             State::HalfPrepared(half) if half == id => {}
-            State::Preparing(_) => return Answer::returned(BUSY),
+            State::Preparing(_) | State::Withdrawn(_) => return Answer::returned(BUSY),
             _ => return Answer::returned(WRONG_STATE),
         }
         let Some(component) = self.board.get(id) else {
@@ -178,16 +178,18 @@ impl Record {
         if id != own {
             return Answer::returned(INVALID_PARAMETERS);
         }
-        if let State::Preparing(_) | State::Together(_) | State::Alone(_) = self.state {
-            return Answer::returned(BUSY);
-        }
-        let release = match self.let_go(State::Idle) {
-            nobody if nobody.is_empty() => Release::Nobody,
-            cpus => Release::Returned {
-                cpus,
-                x0: ACTIVATION_FAILED,
-                x1: 0,
-            },
+        let release = match self.state {
+            State::Together(_) | State::Alone(_) => return Answer::returned(BUSY),
+            State::Preparing(_) | State::Withdrawn(_) => {
+                // Only the job's report lets the caller of PRIME go.
+                self.state = State::Withdrawn(id);
+                Release::Nobody
+            }
+            State::Gathering(_) => self.give_up(),
+            _ => {
+                self.state = State::Idle;
+                Release::Nobody
+            }
         };
         Answer {
             caller: Caller::Returned([0; 4]),
@@ -228,19 +230,23 @@ impl Record {
     }
 
     fn prime_report(&mut self, report: &Report) -> Result<Answer, Refusal> {
-        let id = report.component;
-        if self.state != State::Preparing(id) {
+        let (id, code) = (report.component, report.code);
+        let withdrawn = self.state == State::Withdrawn(id);
+        if !withdrawn && self.state != State::Preparing(id) {
             return Err(Refusal::NoSuchJob);
         }
-        if !has_code(PRIME_CODES, report.code) {
+        if !has_code(PRIME_CODES, code) {
             return Err(Refusal::CodeNotAllowed);
         }
-        let next = match report.code {
+        if withdrawn {
+            return Ok(Answer::release(self.give_up()));
+        }
+        let next = match code {
             0 => State::Ready(id),
             1 => State::HalfPrepared(id),
             _ => State::Idle,
         };
-        Ok(self.released(report.code, next))
+        Ok(self.released(code, next))
     }
 
     fn activate_report(
@@ -307,6 +313,15 @@ impl Record {
         let (x0, x1) = if code == 1 { (0, 1) } else { (status(code), 0) };
         let cpus = self.let_go(next);
         Answer::release(Release::Returned { cpus, x0, x1 })
+    }
+
+    /// Back to idle without an activation; the held CPUs return with -11.
+    fn give_up(&mut self) -> Release {
+        Release::Returned {
+            cpus: self.let_go(State::Idle),
+            x0: ACTIVATION_FAILED,
+            x1: 0,
+        }
     }
 
     /// Writes what was kept for the held CPUs at their places of the tables.

@@ -214,8 +214,12 @@ fn deciding_records() {
             ACTIVATE => record.code > 2 || record.code == 0,
             _ => false,
         };
-        assert_eq!(record.is_deciding(), expected);
         let postpones = record.kind == ACTIVATE && record.code == 2;
-        assert_eq!(record.is_postponement(), postpones);
+        // Word 6 says what is prepared then, and not whether it decides.
+        for given in [0, 1, status(11), record.words[5]] {
+            let record = with_field(record, 9, given);
+            assert_eq!(record.is_deciding(), expected);
+            assert_eq!(record.is_postponement(), postpones);
+        }
     }
 }

@@ -1,96 +1,112 @@
-//! The plain reader, beside the agent: what is read off a log besides the two
-//! questions that the library answers.
+//! The plain reader, beside the agent: what is read off a log.
 
-use common::boards::{described, usual, PLAIN};
-use common::convert::peer_call;
+use common::boards::{packed, usual, PLAIN};
+use common::convert::{peer_call, state_number, STATES};
 use common::dice::Dice;
 use common::events::{activate, activate_report, from_cpu};
 use common::generate::{event, Mood};
 use common::host::Host;
-use common::pair::{prepared_in, started_by};
+use common::pair::started_by;
+use common::walk::Walk;
 use peer::*;
-use std::collections::BTreeMap;
+use std::collections::{BTreeMap, BTreeSet};
 
-/// The bytes of a record.
-fn packed(record: &LogRecord) -> [u8; RECORD_BYTES] {
-    let mut bytes = [0; RECORD_BYTES];
-    record.write(&mut bytes).expect("a good record");
-    bytes
+/// The record of a call about this component or CPU, with an X0 of 0.
+fn called(cpu: u64, function: Function, x1: u64, outcome: u64) -> LogRecord {
+    LogRecord {
+        kind: CALL,
+        cpu,
+        outcome,
+        words: [function.number(), x1, 0, 0, 0, 0],
+        ..LogRecord::default()
+    }
+}
+
+fn log_of(records: &[LogRecord]) -> Vec<u8> {
+    records.iter().flat_map(packed).collect()
 }
 
 #[test]
 fn a_cancel_releases_only_those_held_for_activate() {
-    // A log that no agent writes: a CANCEL that returned 0 while a CPU is
-    // held for PRIME.
-    let call = |cpu, function: Function, outcome| LogRecord {
-        kind: CALL,
-        cpu,
-        outcome,
-        words: [function.number(), 0, 0, 0, 0, 0],
-        ..LogRecord::default()
-    };
-    let records = [
-        call(0, Function::Prime, PRIME_STARTED),
-        call(1, Function::Activate, HELD),
-        call(2, Function::Cancel, RETURNED),
-    ];
-    let log = records.map(|record| packed(&record)).concat();
-    let board = described(&usual(4, 4));
-    let held = [0, 1, 2, 3].map(|place| held_at(&board, &log, place).expect("a log"));
+    // A log that no agent writes: CPUs are held for both calls at once.
+    let log = log_of(&[
+        called(0, Function::Prime, PLAIN, PRIME_STARTED),
+        called(1, Function::Activate, PLAIN, HELD),
+        called(2, Function::Cancel, PLAIN, RETURNED),
+    ]);
+    let held = [0, 1, 2, 3].map(|place| held_at(&log, place).expect("a log"));
     let sets: [&[u64]; 4] = [&[], &[0], &[0, 1], &[0]];
     assert_eq!(held, sets.map(|cpus| cpus.iter().copied().collect()));
 }
 
-/// A board on its way, by the peer alone, with its log.
-struct Walk {
-    record: Record,
-    board: Vec<u8>,
-    log: Vec<u8>,
+#[test]
+fn sets_have_no_room_for_a_cpu_of_64_or_more() {
+    for target in [1, 63, 64, 65, 1 << 32, u64::MAX] {
+        let log = log_of(&[called(0, Function::CpuOn, target, RETURNED)]);
+        let on = [0, target].into_iter().filter(|&cpu| cpu < 64).collect();
+        assert_eq!(powered_at(&log, 1), Ok(on));
+        assert_eq!(held_at(&log, 1), Ok(CpuSet::default()));
+    }
 }
 
-impl Walk {
-    /// The log tells what the record has: what is prepared, who is on and held.
-    fn check_reading(&self) {
-        let (record, place) = (&self.record, self.log.len() / RECORD_BYTES);
-        let prepared = prepared_at(&self.log, place).expect("a log");
-        assert_eq!(prepared.component, prepared_in(record.state));
-        assert_eq!(powered_at(&self.board, &self.log, place), Ok(record.on));
-        assert_eq!(held_at(&self.board, &self.log, place), Ok(record.held));
+/// Both sets are refused with this number and place.
+#[track_caller]
+fn refused(log: &[u8], place: usize, number: u64, at: usize) {
+    for told in [powered_at(log, place), held_at(log, place)] {
+        let flaw = told.expect_err("refused");
+        assert_eq!((flaw.refusal.number(), flaw.place), (number, at));
     }
+}
 
-    /// The log tells what an event starts, before the agent gets it.
-    fn step(&mut self, event: &Event) -> Result<Answer, Refusal> {
-        let place = self.log.len() / RECORD_BYTES;
-        let read = match event {
-            Event::Call(call) => starts_at(&self.board, &self.log, place, call).expect("a log"),
-            _ => None,
-        };
-        let (mut entries, mut contexts) = ([0; MAX_CPUS], [0; MAX_CPUS]);
-        let answer = self.record.step(event, &mut entries, &mut contexts);
-        assert_eq!(read, started_by(&answer, self.record.state));
-        if let Ok(answer) = answer {
-            self.log.extend(packed(&logged(event, &answer)));
-        }
-        answer
+#[test]
+fn logs_that_tell_no_sets() {
+    let walk = Walk::usual().withdrawn(PLAIN);
+    let records = walk.records();
+    refused(&walk.log, records + 1, 33, 0);
+    refused(&walk.log, usize::MAX, 33, 0);
+    let length = walk.log.len();
+    for cut in (0..length).filter(|length| length % RECORD_BYTES != 0) {
+        refused(&walk.log[..cut], 0, 33, 0);
     }
+    for bad in 0..records {
+        let mut log = walk.log.clone();
+        log[RECORD_BYTES * bad + 2] |= 1;
+        (0..=records).for_each(|place| refused(&log, place, 31, bad));
+        log[RECORD_BYTES * bad] |= 0xE0;
+        (0..=records).for_each(|place| refused(&log, place, 32, bad));
+        refused(&log, records + 1, 33, 0);
+    }
+    let longest = walk.log[..RECORD_BYTES].repeat(MAX_RECORDS + 1);
+    refused(&longest, 0, 33, 0);
+    let full = &longest[RECORD_BYTES..];
+    assert_eq!(powered_at(full, MAX_RECORDS), Ok(walk.record.on));
+}
+
+/// The log tells what an event starts, before the agent gets it.
+fn step(walk: &mut Walk, event: &Event) -> Result<Answer, Refusal> {
+    let read = match event {
+        Event::Call(call) => starts_at(&walk.board, &walk.log, walk.records(), call),
+        _ => Ok(None),
+    };
+    let answer = walk.step(event);
+    assert_eq!(read, Ok(started_by(&answer, walk.record.state)));
+    answer
 }
 
 #[test]
 fn the_reader_agrees_with_the_agent() {
     let mut dice = Dice::new(19);
     let mut outcomes = BTreeMap::<u64, u64>::new();
+    let mut states = BTreeSet::new();
     for turn in 0..400 {
         let board = usual(4, 1 + turn % 4);
         let mood = Mood::any(&mut dice, &board);
-        let mut walk = Walk {
-            board: described(&board),
-            record: Record::fresh(board),
-            log: Vec::new(),
-        };
+        let mut walk = Walk::of(board);
         for _ in 0..250 {
             let event = event(&mut dice, &walk.record, &mood);
             walk.check_reading();
-            if let Ok(answer) = walk.step(&event) {
+            states.insert(state_number(walk.record.state));
+            if let Ok(answer) = step(&mut walk, &event) {
                 let outcome = logged(&event, &answer).outcome;
                 *outcomes.entry(outcome).or_default() += 1;
             }
@@ -99,6 +115,7 @@ fn the_reader_agrees_with_the_agent() {
     println!("outcomes that the reader read: {outcomes:?}");
     let often: Vec<_> = outcomes.iter().filter(|(_, &count)| count > 100).collect();
     assert_eq!(often.len(), 7, "{outcomes:?}");
+    assert!(states.into_iter().eq(0..STATES));
 }
 
 #[test]

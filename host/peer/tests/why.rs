@@ -1,170 +1,16 @@
 //! Why an ACTIVATE is refused, held or started: request 1, by the peer alone.
 
-use common::boards::{described, packed, usual, FIRST, FIXED, LAST, OPTIONAL, PLAIN, RESETS, SVN};
+use common::boards::{packed, usual, FIRST, FIXED, LAST, OPTIONAL, PLAIN, RESETS, SVN};
 use common::convert::reason_number;
 use common::dice::Dice;
-use common::generate::{any_activate, event, Mood};
-use common::pair::{check_why, with_x0};
+use common::generate::{any_activate, event, Mood, PRIME_CODES};
+use common::pair::check_why;
+use common::walk::{ask, Walk};
 use peer::*;
 use std::collections::BTreeMap;
 
 /// No multiple of 4, in the range.
 const BAD: u64 = LAST;
-
-/// A board on its way, with its log.
-#[derive(Clone)]
-struct Walk {
-    record: Record,
-    board: Vec<u8>,
-    log: Vec<u8>,
-}
-
-impl Walk {
-    fn of(board: Board) -> Self {
-        Self {
-            board: described(&board),
-            record: Record::fresh(board),
-            log: Vec::new(),
-        }
-    }
-
-    /// The usual board with eight CPUs, of which the first two are on.
-    fn usual() -> Self {
-        Self::of(usual(4, 8)).powered(1)
-    }
-
-    /// One event; an accepted one is logged.
-    fn step(&mut self, event: &Event) -> Result<Answer, Refusal> {
-        let (mut entries, mut contexts) = ([0; MAX_CPUS], [0; MAX_CPUS]);
-        let answer = self.record.step(event, &mut entries, &mut contexts)?;
-        self.log.extend(packed(&logged(event, &answer)));
-        Ok(answer)
-    }
-
-    /// One event that is accepted.
-    fn after(mut self, event: Event) -> Self {
-        self.step(&event).expect("accepted");
-        self
-    }
-
-    fn call(self, cpu: u64, function: Function, x: [u64; 4]) -> Self {
-        self.after(call(cpu, function, x))
-    }
-
-    fn powered(self, cpu: u64) -> Self {
-        self.call(0, Function::CpuOn, [cpu, FIRST, 0, 0])
-    }
-
-    fn preparing(self, component: u64) -> Self {
-        self.after(image(component, SVN))
-            .call(0, Function::Prime, [component, 0, 0, 0])
-    }
-
-    /// The running prime job ends.
-    fn primed(self, component: u64, code: u64) -> Self {
-        self.preparing(component)
-            .after(Event::Prime(Report { component, code }))
-    }
-
-    fn ready(self, component: u64) -> Self {
-        self.primed(component, 0)
-    }
-
-    fn activating(self, cpu: u64, component: u64, flags: u64) -> Self {
-        self.call(cpu, Function::Activate, [component, flags, FIRST, 0])
-    }
-
-    /// The running activation ends.
-    fn activated(self, component: u64, code: u64) -> Self {
-        self.after(Event::Activate(Report { component, code }))
-    }
-
-    /// CPU 0 is held.
-    fn gathering(self, component: u64) -> Self {
-        self.ready(component).activating(0, component, 0)
-    }
-
-    /// CPU 0 is held.
-    fn alone(self) -> Self {
-        self.ready(OPTIONAL).activating(0, OPTIONAL, 1)
-    }
-
-    fn half_activated(self) -> Self {
-        self.alone().activated(OPTIONAL, 1)
-    }
-
-    fn together(self, component: u64) -> Self {
-        self.gathering(component).activating(1, component, 0)
-    }
-
-    /// CPU 1 cancels.
-    fn cancelled(self, component: u64) -> Self {
-        self.call(1, Function::Cancel, [component, 0, 0, 0])
-    }
-
-    fn dead(self) -> Self {
-        self.together(PLAIN).activated(PLAIN, 5)
-    }
-
-    fn records(&self) -> usize {
-        self.log.len() / RECORD_BYTES
-    }
-
-    /// The bytes of the record at a place.
-    fn bytes(&mut self, place: usize) -> &mut [u8] {
-        &mut self.log[RECORD_BYTES * place..][..RECORD_BYTES]
-    }
-
-    fn logged_at(&self, place: usize) -> LogRecord {
-        LogRecord::read(&self.log[RECORD_BYTES * place..]).expect("a record")
-    }
-
-    /// With another record at a place.
-    fn with(mut self, place: usize, record: &LogRecord) -> Self {
-        self.bytes(place).copy_from_slice(&packed(record));
-        self
-    }
-
-    /// With one more record at a place.
-    fn with_inserted(mut self, place: usize, record: &LogRecord) -> Self {
-        let at = RECORD_BYTES * place;
-        self.log.splice(at..at, packed(record));
-        self
-    }
-
-    fn why_at(&self, place: usize, ask: &Activate) -> Result<Reason, Flaw> {
-        why_at(&self.board, &self.log, place, ask)
-    }
-
-    /// Why, at the log's end, for a call that is admitted.
-    fn why(&self, cpu: u64, x: [u64; 4]) -> Reason {
-        let why = self.why_at(self.records(), &ask(cpu, x));
-        why.expect("a log, and a CPU that may call")
-    }
-}
-
-/// The bytes of a record.
-fn ask(cpu: u64, [x1, x2, x3, x4]: [u64; 4]) -> Activate {
-    Activate {
-        cpu,
-        x1,
-        x2,
-        x3,
-        x4,
-    }
-}
-
-fn call(cpu: u64, function: Function, x: [u64; 4]) -> Event {
-    let x0 = function.number();
-    Event::Call(Call {
-        x0,
-        ..with_x0(&ask(cpu, x))
-    })
-}
-
-fn image(component: u64, version: u32) -> Event {
-    Event::Image(Image { component, version })
-}
 
 fn logged_image(component: u64) -> LogRecord {
     LogRecord {
@@ -230,6 +76,21 @@ fn rows_of_7_name_the_state() {
     let half = Walk::usual().primed(OPTIONAL, 1);
     told_for_any_registers(half, Reason::HalfPrepared(OPTIONAL));
     told_for_any_registers(Walk::usual().dead(), Reason::Dead);
+    let withdrawn = Walk::usual().withdrawn(RESETS);
+    told_for_any_registers(withdrawn.clone(), Reason::Withdrawn(RESETS));
+    let again = withdrawn.cancelled(RESETS);
+    told_for_any_registers(again, Reason::Withdrawn(RESETS));
+}
+
+/// Nothing is left of a CANCEL once its job's report is there.
+#[test]
+fn withdrawn_lasts_until_the_report() {
+    for code in PRIME_CODES {
+        let walk = Walk::usual().withdrawn(PLAIN).reported(PLAIN, code);
+        told_for_any_registers(walk.clone(), Reason::NothingPrepared);
+        let ready = walk.ready(PLAIN);
+        assert_eq!(ready.why(1, [PLAIN, 0, 0, 0]), held(&[0]));
+    }
 }
 
 /// What CPU 1 is told with each X2 and X3 in turn, after it asked with
@@ -404,8 +265,12 @@ fn the_caller_is_refused_with_place_0() {
         refused(walk.why_at(walk.records(), &ask(cpu, x)), number, 0);
     }
     // Held for PRIME, and so before the -7 of its row.
-    let walk = Walk::usual().preparing(PLAIN);
-    refused(walk.why_at(walk.records(), &ask(0, x)), 4, 0);
+    for walk in [
+        Walk::usual().preparing(PLAIN),
+        Walk::usual().withdrawn(PLAIN),
+    ] {
+        refused(walk.why_at(walk.records(), &ask(0, x)), 4, 0);
+    }
 }
 
 #[test]
@@ -435,6 +300,8 @@ fn long_walk() -> Walk {
         .activated(RESETS, 2)
         .activating(0, RESETS, 0)
         .cancelled(RESETS)
+        .withdrawn(RESETS)
+        .reported(RESETS, 0)
         .call(1, Function::CpuOff, [0; 4])
         .ready(OPTIONAL)
         .activating(0, OPTIONAL, 1)
@@ -493,7 +360,7 @@ fn another_outcome_is_35() {
             changed += 1;
         }
     }
-    assert_eq!(changed, 4 * 10);
+    assert_eq!(changed, 4 * 12);
 }
 
 #[test]
@@ -511,7 +378,7 @@ fn another_word_6_is_35() {
             }
         }
     }
-    assert_eq!(changed, 5 * 7);
+    assert_eq!(changed, 5 * 9);
 }
 
 #[test]
@@ -532,10 +399,14 @@ fn an_event_that_is_refused_is_35() {
     }
     let gathering = Walk::usual().gathering(OPTIONAL);
     let alone = Walk::usual().alone();
+    let withdrawn = Walk::usual().withdrawn(OPTIONAL);
     for (walk, record) in [
         (&gathering, logged_version(0)),
         (&gathering, logged_image(OPTIONAL)),
         (&alone, logged_report(ACTIVATE, OPTIONAL, 12)),
+        (&withdrawn, logged_version(0)),
+        (&withdrawn, logged_image(OPTIONAL)),
+        (&withdrawn, logged_report(ACTIVATE, OPTIONAL, 0)),
     ] {
         let changed = walk.clone().with_inserted(walk.records(), &record);
         differs_at(&changed, walk.records(), walk);
@@ -632,9 +503,9 @@ fn the_reason_names_the_agents_answer() {
         let mut walk = Walk::of(board);
         for _ in 0..100 {
             let call = any_activate(&mut dice, &walk.record);
-            let (board, log, place) = (&walk.board, &walk.log, walk.records());
+            let place = walk.records();
             let why = walk.why_at(place, &call);
-            check_why(&dice, &walk.record, board, log, place, &call, why);
+            check_why(&dice, &walk.record, &walk.log, place, &call, why);
             if let Ok(reason) = why {
                 *reasons.entry(reason_number(reason)).or_default() += 1;
             }
@@ -642,5 +513,5 @@ fn the_reason_names_the_agents_answer() {
         }
     }
     println!("reasons: {reasons:?}");
-    assert!(reasons.into_keys().eq(1..=14));
+    assert!(reasons.into_keys().eq(1..=15));
 }

@@ -28,7 +28,7 @@ pub struct Abi {
 impl Abi {
     /// The library that this wrapper is for.
     pub const OWN: Abi = Abi {
-        number: 2,
+        number: 3,
         record: size_of::<Record>() as u64,
         event: size_of::<Event>() as u64,
         answer: size_of::<Answer>() as u64,
@@ -286,6 +286,18 @@ pub struct Prepared {
     pub looked: usize,
 }
 
+/// The answer of [`powered`] and of [`held`].
+#[repr(C)]
+#[derive(Clone, Copy, Debug, Default, PartialEq, Eq)]
+pub struct CpusAt {
+    /// 0 or the number of the refusal.
+    pub refusal: u64,
+    /// If refused, the place of the record to blame, or 0 where it is the log.
+    pub place: usize,
+    /// The CPUs; none if refused.
+    pub cpus: Cpus,
+}
+
 /// The answer of [`starts`].
 #[repr(C)]
 #[derive(Clone, Copy, Debug, Default, PartialEq, Eq)]
@@ -332,8 +344,8 @@ pub struct Why {
 
 mod linked {
     use super::{
-        Abi, Activate, Answer, Board, Call, Event, Fresh, Prepared, Read, Record, Started, Why,
-        Written,
+        Abi, Activate, Answer, Board, Call, CpusAt, Event, Fresh, Prepared, Read, Record, Started,
+        Why, Written,
     };
 
     // The library's convention: on x86-64 that of System V, also where C has another.
@@ -360,6 +372,8 @@ mod linked {
         pub fn lfa_log(buf: *mut u8, buf_length: usize, e: Event, a: Answer) -> Written;
         pub fn lfa_read_record(log: *const u8, log_length: usize) -> Read;
         pub fn lfa_prepared(log: *const u8, log_length: usize, place: usize) -> Prepared;
+        pub fn lfa_powered(log: *const u8, log_length: usize, place: usize) -> CpusAt;
+        pub fn lfa_held(log: *const u8, log_length: usize, place: usize) -> CpusAt;
         pub fn lfa_starts(
             board: *const u8,
             board_length: usize,
@@ -448,6 +462,20 @@ pub fn prepared(log: &[u8], place: usize) -> Prepared {
     ensure_own_library();
     // SAFETY: the slice is valid for its length, and the function only reads it.
     unsafe { linked::lfa_prepared(log.as_ptr(), log.len(), place) }
+}
+
+/// The CPUs that are powered at a place of a log.
+pub fn powered(log: &[u8], place: usize) -> CpusAt {
+    ensure_own_library();
+    // SAFETY: the slice is valid for its length, and the function only reads it.
+    unsafe { linked::lfa_powered(log.as_ptr(), log.len(), place) }
+}
+
+/// The CPUs that are held at a place of a log.
+pub fn held(log: &[u8], place: usize) -> CpusAt {
+    ensure_own_library();
+    // SAFETY: the slice is valid for its length, and the function only reads it.
+    unsafe { linked::lfa_held(log.as_ptr(), log.len(), place) }
 }
 
 /// The component whose rendezvous activation starts at a call made at a place of a log.

@@ -3,8 +3,12 @@
 //! A host keeps a [`Record`] of its board, whose description it has packed or writes from its parts ([`describe`]), and tells it
 //! every [`Event`]: a call from a CPU, the end of a job, an image that arrived. The [`Answer`] says what becomes of the caller
 //! and who else goes on. Each accepted event can be logged ([`write_log`]) and read back ([`read_record`]), and the log alone
-//! tells what is prepared ([`prepared_at`]), whether a call starts a rendezvous activation ([`starts_at`]), and why an ACTIVATE
-//! is refused, held or started ([`why_at`]). A [`Refusal`] changes nothing.
+//! tells what is prepared ([`prepared_at`]), which CPUs are powered and held ([`powered_at`], [`held_at`]), whether a call
+//! starts a rendezvous activation ([`starts_at`]), and why an ACTIVATE is refused, held or started ([`why_at`]). A [`Refusal`]
+//! changes nothing.
+//!
+//! A CANCEL that returns 0 while a prime job runs does not end the job: its report still has to come, and only that lets the
+//! CPU go that waits for it ([`State::Withdrawn`]).
 //!
 //! No board, event or log makes a function here panic. A linked library that this wrapper is not for does: one that says so,
 //! before anything crosses to it, and one whose answer, state or reason has a number that this wrapper does not know.
@@ -56,7 +60,8 @@ pub use answer::{status, Answer, Caller, Registers, Release};
 pub use event::{code, function, Call, Event, Image, Report};
 pub use flat::{Board, Component, Cpus, Freed, LogRecord, MOST_COMPONENTS, MOST_CPUS};
 pub use log::{
-    prepared_at, read_record, starts_at, write_log, Flaw, Prepared, MOST_RECORDS, RECORD_BYTES,
+    held_at, powered_at, prepared_at, read_record, starts_at, write_log, Flaw, Prepared,
+    MOST_RECORDS, RECORD_BYTES,
 };
 pub use record::{describe, Record, State};
 pub use refusal::Refusal;

@@ -1,11 +1,11 @@
-//! The log: one record for each accepted event, and two questions that it answers.
+//! The log: one record for each accepted event, and four questions that it answers.
 
 use core::error::Error;
 use core::fmt;
 
 use crate::answer::Answer;
 use crate::event::{Call, Event};
-use crate::flat::{self, Found, LogRecord};
+use crate::flat::{self, Cpus, CpusAt, Found, LogRecord};
 use crate::refusal::Refusal;
 
 /// Bytes of a log record.
@@ -76,12 +76,29 @@ pub fn prepared_at(log: &[u8], place: usize) -> Result<Prepared, Flaw> {
     })
 }
 
+/// The powered CPUs at a place of a log, by the log alone.
+///
+/// A log that no agent wrote can switch on a CPU of 64 or more: it is in no set.
+pub fn powered_at(log: &[u8], place: usize) -> Result<Cpus, Flaw> {
+    cpus(flat::powered(log, place))
+}
+
+/// The held CPUs at a place of a log, by the log alone.
+pub fn held_at(log: &[u8], place: usize) -> Result<Cpus, Flaw> {
+    cpus(flat::held(log, place))
+}
+
 /// The component, if any, whose rendezvous activation starts if the call is made at a place of a log; from the packed board
 /// description, the log and the call alone.
 pub fn starts_at(board: &[u8], log: &[u8], place: usize, call: &Call) -> Result<Option<u64>, Flaw> {
     let answer = flat::starts(board, log, place, *call);
     Flaw::check(answer.refusal, answer.place)?;
     Ok(component(answer.started))
+}
+
+fn cpus(t: CpusAt) -> Result<Cpus, Flaw> {
+    Flaw::check(t.refusal, t.place)?;
+    Ok(t.cpus)
 }
 
 fn component(f: Found) -> Option<u64> {

@@ -26,6 +26,8 @@ pub enum State {
     HalfActivated(u64),
     /// An activation failed for good.
     Dead,
+    /// A prime job runs whose preparation was cancelled: only its report lets the held CPU go.
+    Withdrawn(u64),
 }
 
 impl State {
@@ -41,6 +43,7 @@ impl State {
             (6, c) => Some(State::Alone(c)),
             (7, c) => Some(State::HalfActivated(c)),
             (8, 0) => Some(State::Dead),
+            (9, c) => Some(State::Withdrawn(c)),
             _ => None,
         }
     }

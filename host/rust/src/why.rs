@@ -5,7 +5,7 @@ use crate::log::Flaw;
 
 pub use crate::flat::Activate;
 
-/// The first of document 01's rules for ACTIVATE that applies.
+/// The first of the rules for ACTIVATE that applies.
 #[derive(Clone, Copy, Debug, PartialEq, Eq)]
 pub enum Reason {
     /// -7: nothing is prepared.
@@ -36,6 +36,8 @@ pub enum Reason {
     Held(Cpus),
     /// Activation starts: all powered CPUs are present.
     AllPresent,
+    /// -7: this component's preparation was cancelled while it ran.
+    Withdrawn(u64),
 }
 
 impl Reason {
@@ -61,6 +63,7 @@ impl Reason {
             12 => Reason::Skipped,
             13 => Reason::Held(w.missing),
             14 => Reason::AllPresent,
+            15 => Reason::Withdrawn(w.component),
             other => panic!("no reason has the number {other}"),
         })
     }

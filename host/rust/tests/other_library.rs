@@ -43,8 +43,10 @@ fn no_function_of_another_library_is_called() {
         is_refused(|| flat::log(&mut [], event, answer)),
         is_refused(|| flat::read_record(&[])),
         is_refused(|| flat::prepared(&[], 0)),
+        is_refused(|| flat::powered(&[], 0)),
+        is_refused(|| flat::held(&[], 0)),
         is_refused(|| flat::starts(&[], &[], 0, Call::default())),
         is_refused(|| flat::why(&[], &[], 0, Activate::default())),
     ];
-    assert_eq!(refused, [true; 8]);
+    assert_eq!(refused, [true; 10]);
 }

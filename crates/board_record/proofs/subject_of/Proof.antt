@@ -1,4 +1,4 @@
--- One case for each of the nine states: told which it is, `subjectOf` computes to what is returned.
+-- One case for each of the ten states: told which it is, `subjectOf` computes to what is returned.
 use borrow.Author.Needs.{needs}
 use Rattle.board_record.proofs.subject_of.Statement.{statement}
 use Rattle.board_record.proofs.subject_of.Tie as tie
@@ -30,6 +30,9 @@ enum-known-s-7 c = search needs
 enum-told-2 : tie.Need-enum-told-2
 enum-told-2 c = search needs
 
+enum-known-s-8 : tie.Need-enum-known-s-8
+enum-known-s-8 c = search needs
+
 returns : tie.Need-returns
 returns c = search needs
 
@@ -57,6 +60,9 @@ returns-8 c = rw (c .before .s7 .given .1)
 returns-9 : tie.Need-returns-9
 returns-9 c = search needs
 
+returns-10 : tie.Need-returns-10
+returns-10 c = rw (c .before .s8 .given .1)
+
 pub subject-of-spec : {M : Type 1} → statement M
 subject-of-spec =
     tie.close
@@ -70,6 +76,7 @@ subject-of-spec =
     enum-known-s-6
     enum-known-s-7
     enum-told-2
+    enum-known-s-8
     returns
     returns-2
     returns-3
@@ -78,4 +85,5 @@ subject-of-spec =
     returns-6
     returns-7
     returns-8
-    returns-9)
+    returns-9
+    returns-10)

@@ -1,6 +1,6 @@
 //! Every clause of a well-formed record, each with what breaks it.
 
-use common::convert::{flat_cpus, peer_cpus};
+use common::convert::{flat_cpus, peer_cpus, STATES};
 use common::dice::Dice;
 use lfa::flat;
 use peer::{CpuSet, MAX_COMPONENTS, MAX_CPUS};
@@ -10,7 +10,7 @@ use std::ops::Range;
 pub type Breaker = fn(&mut Dice, &mut flat::Record) -> Option<()>;
 
 /// Every clause of a well formed record, by name.
-pub const CLAUSES: [(&str, Breaker); 45] = [
+pub const CLAUSES: [(&str, Breaker); 47] = [
     ("no component", |_, r| {
         r.board.components = 0;
         Some(())
@@ -155,26 +155,14 @@ pub const CLAUSES: [(&str, Breaker); 45] = [
         let none = matches!(r.state, 0 | 2 | 3 | 7 | 8);
         none.then(|| hold(r, CpuSet::only(cpu)))
     }),
-    ("no CPU held in preparing", |_, r| {
-        (r.state == 1).then(|| hold(r, CpuSet::default()))
-    }),
-    ("no CPU held in gathering", |_, r| {
-        (r.state == 4).then(|| hold(r, CpuSet::default()))
-    }),
-    ("no CPU held in together", |_, r| {
-        (r.state == 5).then(|| hold(r, CpuSet::default()))
-    }),
-    ("no CPU held in alone", |_, r| {
-        (r.state == 6).then(|| hold(r, CpuSet::default()))
-    }),
-    ("two CPUs held in preparing", |dice, r| {
-        let other = dice.member(on(r).without(held(r)).members())?;
-        (r.state == 1).then(|| hold(r, held(r).with(other)))
-    }),
-    ("two CPUs held in alone", |dice, r| {
-        let other = dice.member(on(r).without(held(r)).members())?;
-        (r.state == 6).then(|| hold(r, held(r).with(other)))
-    }),
+    ("no CPU held in preparing", |_, r| none_held(r, 1)),
+    ("no CPU held in gathering", |_, r| none_held(r, 4)),
+    ("no CPU held in together", |_, r| none_held(r, 5)),
+    ("no CPU held in alone", |_, r| none_held(r, 6)),
+    ("no CPU held in withdrawn", |_, r| none_held(r, 9)),
+    ("two CPUs held in preparing", |dice, r| two_held(dice, r, 1)),
+    ("two CPUs held in alone", |dice, r| two_held(dice, r, 6)),
+    ("two CPUs held in withdrawn", |dice, r| two_held(dice, r, 9)),
     ("all CPUs held in gathering", |_, r| {
         (r.state == 4).then(|| hold(r, on(r)))
     }),
@@ -185,7 +173,7 @@ pub const CLAUSES: [(&str, Breaker); 45] = [
     ("held CPU is off", |dice, r| {
         let off = dice.member(cpus(r).without(on(r)).members())?;
         let held = match r.state {
-            1 | 6 => CpuSet::default(),
+            1 | 6 | 9 => CpuSet::default(),
             4 | 5 => held(r),
             _ => return None,
         };
@@ -219,8 +207,8 @@ pub const CLAUSES: [(&str, Breaker); 45] = [
         }
         Some(())
     }),
-    ("state of 9 or more", |dice, r| {
-        r.state = large(dice, 8);
+    ("state of 10 or more", |dice, r| {
+        r.state = large(dice, STATES as u64 - 1);
         Some(())
     }),
     ("component in idle or dead", |dice, r| {
@@ -296,7 +284,7 @@ fn past<'r>(dice: &mut Dice, r: &'r mut flat::Record) -> Option<&'r mut flat::Co
 
 /// The state's component, if it has one.
 fn subject(r: &flat::Record) -> Option<usize> {
-    (1..8).contains(&r.state).then_some(r.subject as usize)
+    matches!(r.state, 1..=7 | 9).then_some(r.subject as usize)
 }
 
 /// Whether held CPUs have entries.
@@ -329,6 +317,17 @@ fn bad_entry(dice: &mut Dice, r: &flat::Record) -> u64 {
         2 => board.first & !3 | 1 << dice.below(2),
         _ => unaligned,
     }
+}
+
+/// In this state, nobody held.
+fn none_held(r: &mut flat::Record, state: u64) -> Option<()> {
+    (r.state == state).then(|| hold(r, CpuSet::default()))
+}
+
+/// In this state, which holds one CPU, another one held as well.
+fn two_held(dice: &mut Dice, r: &mut flat::Record, state: u64) -> Option<()> {
+    let other = dice.member(on(r).without(held(r)).members())?;
+    (r.state == state).then(|| hold(r, held(r).with(other)))
 }
 
 /// Sets who is held, with nothing else wrong: entries are kept just for them.

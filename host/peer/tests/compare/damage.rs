@@ -23,12 +23,12 @@ struct Sample {
 
 /// Samples of every state, few from each walk.
 fn samples(dice: &mut Dice) -> Vec<Sample> {
-    let mut found: [Vec<Sample>; 9] = Default::default();
+    let mut found: [Vec<Sample>; STATES] = Default::default();
     let mut tally = Tally::default();
     while found.iter().any(|each| each.len() < SAMPLES) {
         let mut walk = Walk::new(dice);
         let mood = Mood::any(dice, &walk.pair.peer.board);
-        let mut taken = [0; 9];
+        let mut taken = [0; STATES];
         while !walk.is_over() && walk.records() < 150 && dice.below(600) != 0 {
             walk.step(dice, &mut tally);
             let state = walk.pair.library.state as usize;
@@ -137,7 +137,7 @@ fn change(dice: &mut Dice, r: &mut flat::Record) {
         4 => r.pending[component] = number as u8,
         5 => r.pending[component] ^= 1,
         6 => r.version[component] = number as u32,
-        7 => r.state = dice.below(10),
+        7 => r.state = dice.below(STATES as u64 + 1),
         8 => r.state = number,
         9 => r.subject = number,
         10 => r.on.bits = number,

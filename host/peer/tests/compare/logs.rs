@@ -8,7 +8,8 @@ use common::convert::*;
 use common::dice::Dice;
 use common::generate::{entry, id, junk_event, noise, ACTIVATE_CODES, FUNCTIONS, PRIME_CODES};
 use common::pair::{
-    ask, ask_prepared, ask_starts, ask_why, flat_form, log, question, read_record, without_x0,
+    ask, ask_cpus, ask_prepared, ask_starts, ask_why, flat_form, log, question, read_record,
+    without_x0,
 };
 use lfa::flat;
 use peer::*;
@@ -205,6 +206,7 @@ fn any_logged_call(dice: &mut Dice, record: &Record) -> LogRecord {
     let function = match dice.below(8) {
         0..=3 => Function::Activate,
         4 => Function::CpuOn,
+        5 => Function::Cancel,
         _ => dice.one_of(&FUNCTIONS),
     };
     let target = dice.below(cpus + 1);
@@ -212,7 +214,10 @@ fn any_logged_call(dice: &mut Dice, record: &Record) -> LogRecord {
         Function::CpuOn => dice.one_of(&[target, target, target, 63, 64, 1 << 32, target | 256]),
         _ => id(dice, record),
     };
-    let outcome = dice.one_of(&[RETURNED, RETURNED, HELD, HELD, 3, 4, GONE]);
+    let outcome = match function {
+        Function::Cancel if !dice.one_in(4) => RETURNED,
+        _ => dice.one_of(&[RETURNED, RETURNED, HELD, HELD, 3, 3, 4, GONE]),
+    };
     let given = match outcome {
         RETURNED => dice.one_of(&[0, 0, 0, status(8), 1, u64::MAX]),
         _ => 0,
@@ -240,8 +245,9 @@ fn any_record(dice: &mut Dice, record: &Record) -> LogRecord {
         _ => dice.below(record.board.components.min(3)),
     };
     let (kind, code, outcome, given) = match dice.below(16) {
-        0..=3 => (PRIME, dice.one_of(&PRIME_CODES), RELEASED, dice.word()),
-        4 => (PRIME, 0, RELEASED, 0),
+        0 | 1 => (PRIME, dice.one_of(&PRIME_CODES), RELEASED, dice.word()),
+        2 => (PRIME, 0, RELEASED, dice.one_of(&[1, 1 << 32, status(11)])),
+        3 | 4 => (PRIME, 0, RELEASED, 0),
         5 => (ACTIVATE, dice.one_of(&[1, 2]), RELEASED, 0),
         6 => match dice.one_of(&ACTIVATE_CODES) {
             12 => (ACTIVATE, 12, RELEASED, 0),
@@ -271,44 +277,86 @@ fn any_log(dice: &mut Dice, record: &Record) -> Vec<u8> {
         .collect()
 }
 
+/// What was met in logs that no agent writes.
+#[derive(Default, Debug)]
+struct Met {
+    started: u64,
+    /// Not started because of a CPU that no set has.
+    stopped: u64,
+    /// Not prepared because of word 6 of a prime report of code 0.
+    unfinished: u64,
+    /// Still held, so for PRIME, at a CANCEL that returned 0.
+    kept: u64,
+    /// Whys by their refusals.
+    whys: BTreeMap<u64, u64>,
+}
+
+impl Met {
+    /// Every question at a place of a log.
+    fn ask(&mut self, dice: &mut Dice, record: &Record, log: &[u8], place: usize) {
+        let board = described(&record.board);
+        let prepared = ask_prepared(dice, log, place).expect("a good log");
+        let mut call = question(dice, record);
+        call.x1 = prepared.component.unwrap_or(call.x1);
+        let read = ask_starts(dice, &board, log, place, &call).expect("a good log");
+        let why = ask_why(dice, &board, log, place, &without_x0(&call));
+        let refusal = refusal_of(&why.map_err(|flaw| flaw.refusal));
+        let [_, held] = ask_cpus(dice, log, place).expect("a good log");
+        let mut reading = reading_at(log, place).expect("a good log");
+        let beyond = std::mem::take(&mut reading.powered_beyond);
+        let stopped = beyond && reading.starts(&record.board, &call).is_some();
+        let kept = !held.is_empty() && is_cancelled(log, place);
+        self.started += u64::from(read.is_some());
+        self.stopped += u64::from(stopped);
+        self.unfinished += u64::from(is_unfinished(log, place, &prepared));
+        self.kept += u64::from(kept);
+        *self.whys.entry(refusal).or_default() += 1;
+    }
+}
+
+/// The record at a place of a good log, if there is one.
+fn record_at(log: &[u8], place: usize) -> Option<LogRecord> {
+    LogRecord::read(&log[RECORD_BYTES * place..]).ok()
+}
+
+/// Whether it was a prime report of code 0 that left nothing prepared.
+fn is_unfinished(log: &[u8], place: usize, prepared: &Prepared) -> bool {
+    if prepared.looked == 0 {
+        return false;
+    }
+    let decided = record_at(log, place - prepared.looked);
+    prepared.component.is_none() && decided.is_some_and(|at| at.kind == PRIME && at.code == 0)
+}
+
+/// Whether the record before a place is a CANCEL that returned 0.
+fn is_cancelled(log: &[u8], place: usize) -> bool {
+    let last = place.checked_sub(1).and_then(|last| record_at(log, last));
+    last.is_some_and(|last| last.is_cancelling())
+}
+
 /// Readable records in any order: what is read off them goes by the rules of
 /// the log alone.
 #[test]
 fn logs_that_no_agent_writes() {
     let mut dice = Dice::new(15);
-    let mut started = 0;
-    let mut stopped = 0;
-    let mut whys = BTreeMap::<u64, u64>::new();
+    let mut met = Met::default();
     for _ in 0..2000 {
         let mut board = any(&mut dice);
         if !dice.one_in(8) {
             board.cpus = board.cpus.min(3);
         }
-        let described = described(&board);
         let record = Record::fresh(board);
         let log = any_log(&mut dice, &record);
         for place in 0..=log.len() / RECORD_BYTES {
             dice.next_step();
-            let prepared = ask_prepared(&dice, &log, place).expect("a good log");
-            let mut call = question(&mut dice, &record);
-            call.x1 = prepared.component.unwrap_or(call.x1);
-            let read = ask_starts(&dice, &described, &log, place, &call);
-            started += u64::from(read.expect("a good log").is_some());
-            let why = ask_why(&dice, &described, &log, place, &without_x0(&call));
-            let refusal = refusal_of(&why.map_err(|flaw| flaw.refusal));
-            *whys.entry(refusal).or_default() += 1;
-            let (board, mut reading) = reading_at(&described, &log, place).expect("a good log");
-            if std::mem::take(&mut reading.powered_beyond) {
-                stopped += u64::from(reading.starts(&board, &call).is_some());
-            }
+            met.ask(&mut dice, &record, &log, place);
         }
     }
-    println!("started in logs that no agent writes: {started}");
-    println!("not started because of a CPU that no set has: {stopped}");
-    println!("refusals of whys in logs that no agent writes: {whys:?}");
-    assert!(started > 500 && stopped > 5, "{dice}: {started} {stopped}");
-    let often = |refusal| whys.get(&refusal) > Some(&500);
-    assert!(often(0) && often(35), "{dice}: {whys:?}");
+    println!("in logs that no agent writes: {met:?}");
+    assert!(met.started > 500 && met.stopped > 5, "{dice}: {met:?}");
+    assert!(met.unfinished > 500 && met.kept > 10, "{dice}: {met:?}");
+    let often = |refusal| met.whys.get(&refusal) > Some(&500);
+    assert!(often(0) && often(35), "{dice}: {met:?}");
 }
 
 /// The bits of a record, and those of its word 6.

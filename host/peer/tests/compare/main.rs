@@ -6,6 +6,7 @@
 
 mod boards;
 mod clauses;
+mod cpus;
 mod damage;
 mod logs;
 mod places;

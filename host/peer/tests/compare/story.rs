@@ -50,8 +50,7 @@ impl Story {
 
     /// That an answer at a place fits the board's record there.
     pub fn check(&self, dice: &Dice, place: usize, ask: &Activate, why: Result<Reason, Flaw>) {
-        let Self { board, log, .. } = self;
-        check_why(dice, self.at(place), board, log, place, ask, why);
+        check_why(dice, self.at(place), &self.log, place, ask, why);
     }
 
     /// The log with the record at a place changed, or with one more before it
@@ -171,16 +170,16 @@ pub fn refused_cpu(dice: &mut Dice, record: &Record, number: u64) -> Option<u64>
 /// A report on a job that does not run.
 fn report_without_job(dice: &mut Dice, record: &Record) -> Option<Event> {
     let component = dice.below(32);
-    if dice.one_in(2) {
+    let (event, jobs) = if dice.one_in(2) {
         let code = dice.one_of(&PRIME_CODES);
-        let runs = record.state == State::Preparing(component);
-        (!runs).then_some(Event::Prime(Report { component, code }))
+        let jobs = [State::Preparing(component), State::Withdrawn(component)];
+        (Event::Prime(Report { component, code }), jobs)
     } else {
         let code = dice.one_of(&ACTIVATE_CODES);
         let jobs = [State::Together(component), State::Alone(component)];
-        let runs = jobs.contains(&record.state);
-        (!runs).then_some(Event::Activate(Report { component, code }))
-    }
+        (Event::Activate(Report { component, code }), jobs)
+    };
+    (!jobs.contains(&record.state)).then_some(event)
 }
 
 /// A report on the running activation with a code that is not for it.

@@ -1,6 +1,6 @@
 //! What a run came by, and that nothing was left out.
 
-use common::convert::state_number;
+use common::convert::{state_number, STATES};
 use common::generate::{ACTIVATE_CODES, FUNCTIONS, PRIME_CODES};
 use peer::*;
 use std::collections::{BTreeMap, BTreeSet};
@@ -12,7 +12,9 @@ type Outcome = (u64, i64);
 type FunctionPlace = usize;
 
 /// The outcomes of each function, and of a word that is none.
-const OUTCOMES: [&[Outcome]; 10] = [
+type Outcomes = [&'static [Outcome]; 10];
+
+const OUTCOMES: Outcomes = [
     &[(1, 65536)],
     &[(1, -1), (1, 0)],
     &[(1, -8), (1, 0)],
@@ -25,15 +27,32 @@ const OUTCOMES: [&[Outcome]; 10] = [
     &[(1, -1)],
 ];
 
+/// Those in withdrawn. The held CPU is on, so no caller is the last one.
+const OUTCOMES_IN_WITHDRAWN: Outcomes = [
+    &[(1, 65536)],
+    &[(1, -1), (1, 0)],
+    &[(1, -8), (1, 0)],
+    &[(1, -8), (1, -7), (1, 0)],
+    &[(1, -2)],
+    &[(1, -7)],
+    &[(1, -8), (1, 0)],
+    &[(5, 0)],
+    &[(1, -9), (1, -4), (1, -2), (1, 0)],
+    &[(1, -1)],
+];
+
+const PREPARING: usize = 1;
 /// The state in which no CPU can call.
 const TOGETHER: usize = 5;
+const WITHDRAWN: usize = 9;
 
 /// The moves from one state to another.
-const MOVES: [(usize, usize); 19] = [
+const MOVES: [(usize, usize); 21] = [
     (0, 1),
     (1, 0),
     (1, 2),
     (1, 3),
+    (1, 9),
     (2, 0),
     (2, 1),
     (3, 0),
@@ -49,6 +68,7 @@ const MOVES: [(usize, usize); 19] = [
     (6, 3),
     (6, 7),
     (6, 8),
+    (9, 0),
 ];
 /// The moves out of half-activated.
 const LATE_MOVES: [(usize, usize); 2] = [(7, 0), (7, 6)];
@@ -63,12 +83,15 @@ pub struct Tally {
     moves: BTreeMap<(usize, usize), u64>,
     callers: BTreeMap<u64, u64>,
     releases: BTreeMap<u64, u64>,
-    prime_codes: BTreeMap<u64, u64>,
+    prime_codes: BTreeMap<(usize, u64), u64>,
     activate_codes: BTreeMap<u64, u64>,
     refusals: BTreeMap<u64, u64>,
+    refusals_in_withdrawn: BTreeMap<u64, u64>,
     outcomes: BTreeMap<(FunctionPlace, Outcome), u64>,
+    outcomes_in_withdrawn: BTreeMap<(FunctionPlace, Outcome), u64>,
     cells: BTreeMap<(FunctionPlace, usize), u64>,
     reads: BTreeMap<bool, u64>,
+    cpus_read: BTreeMap<usize, u64>,
 }
 
 /// Counts one more of these.
@@ -108,7 +131,7 @@ impl Tally {
         add(&mut self.states, after);
         match answer {
             Ok(answer) => self.count_accepted(before, event, answer, after),
-            Err(refusal) => add(&mut self.refusals, refusal.number()),
+            Err(refusal) => self.count_refused(before, refusal.number()),
         }
     }
 
@@ -121,6 +144,18 @@ impl Tally {
     /// Counts what was read off a log ahead of a call.
     pub fn count_read(&mut self, read: Option<u64>) {
         add(&mut self.reads, read.is_some());
+    }
+
+    /// Counts that powered and held CPUs were read off a log in a state.
+    pub fn count_cpus_read(&mut self, state: State) {
+        add(&mut self.cpus_read, state_number(state));
+    }
+
+    fn count_refused(&mut self, before: usize, refusal: u64) {
+        add(&mut self.refusals, refusal);
+        if before == WITHDRAWN {
+            add(&mut self.refusals_in_withdrawn, refusal);
+        }
     }
 
     fn count_accepted(&mut self, before: usize, event: &Event, answer: &Answer, after: usize) {
@@ -140,8 +175,11 @@ impl Tally {
                 let function = function_place(call.x0);
                 add(&mut self.outcomes, (function, outcome));
                 add(&mut self.cells, (function, before));
+                if before == WITHDRAWN {
+                    add(&mut self.outcomes_in_withdrawn, (function, outcome));
+                }
             }
-            Event::Prime(report) => add(&mut self.prime_codes, report.code),
+            Event::Prime(report) => add(&mut self.prime_codes, (before, report.code)),
             Event::Activate(report) => add(&mut self.activate_codes, report.code),
             Event::Image(_) => {}
         }
@@ -153,27 +191,41 @@ impl Tally {
         println!("events: {}", self.events);
         exactly("walks by components", &self.components, 1..=32);
         exactly("walks by CPUs", &self.cpus, 1..=64);
-        exactly("states", &self.states, 0..9);
+        exactly("states", &self.states, 0..STATES);
         exactly("moves", &self.moves, MOVES.into_iter().chain(LATE_MOVES));
         exactly("caller's parts", &self.callers, 0..6);
         exactly("releases", &self.releases, 0..3);
-        exactly("prime codes", &self.prime_codes, PRIME_CODES);
+        let primed = [PREPARING, WITHDRAWN].into_iter();
+        exactly(
+            "prime codes",
+            &self.prime_codes,
+            primed.flat_map(|state| PRIME_CODES.map(|code| (state, code))),
+        );
         exactly("activate codes", &self.activate_codes, ACTIVATE_CODES);
         exactly("refusals", &self.refusals, 1..9);
+        let in_withdrawn = &self.refusals_in_withdrawn;
+        exactly("refusals in withdrawn", in_withdrawn, 1..9);
         exactly("activations read ahead", &self.reads, [false, true]);
-        let outcomes = (0..).zip(OUTCOMES);
-        exactly(
-            "outcomes",
-            &self.outcomes,
-            outcomes.flat_map(|(function, list)| list.iter().map(move |&each| (function, each))),
-        );
-        let callable = (0..9).filter(|&state| state != TOGETHER);
+        exactly("CPUs read by state", &self.cpus_read, 0..STATES);
+        exactly("outcomes", &self.outcomes, each_of(OUTCOMES));
+        let in_withdrawn = &self.outcomes_in_withdrawn;
+        let expected = each_of(OUTCOMES_IN_WITHDRAWN);
+        exactly("outcomes in withdrawn", in_withdrawn, expected);
+        let callable = (0..STATES).filter(|&state| state != TOGETHER);
         exactly(
             "cells",
             &self.cells,
             callable.flat_map(|state| (0..10).map(move |function| (function, state))),
         );
     }
+}
+
+/// All of some lists as one, each with the place of its list.
+pub fn each_of<T: Copy + 'static, const N: usize>(
+    lists: [&'static [T]; N],
+) -> impl Iterator<Item = (usize, T)> {
+    let lists = lists.into_iter().enumerate();
+    lists.flat_map(|(place, list)| list.iter().map(move |&each| (place, each)))
 }
 
 /// Fails unless exactly these were counted.

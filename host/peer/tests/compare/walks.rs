@@ -6,8 +6,8 @@ use common::convert::*;
 use common::dice::{from_env, Dice};
 use common::generate::{self, junk_event, Mood};
 use common::pair::{
-    ask_prepared, ask_starts, ask_why, check_why, log, prepared_in, question, refused_step, same,
-    started_by, without_x0, Pair, Tables,
+    ask_prepared, ask_starts, ask_why, check_cpus, check_why, log, prepared_in, question,
+    refused_step, same, started_by, without_x0, Pair, Tables,
 };
 use lfa::flat;
 use peer::*;
@@ -72,6 +72,7 @@ impl Walk {
         if before == State::Dead {
             self.steps_when_dead = self.steps_when_dead.saturating_sub(1);
         }
+        self.read_cpus(dice, tally);
         let event = generate::event(dice, &self.pair.peer, &self.mood);
         let read = self.read_ahead(dice, &event);
         let tables = Tables::mostly_long(dice, self.pair.peer.board.cpus);
@@ -87,6 +88,16 @@ impl Walk {
         }
         if let Ok(answer) = answer {
             self.write(dice, &event, form, answer);
+        }
+    }
+
+    /// Who is powered and held, by the log as by the record: now and then, and
+    /// less often as the log grows.
+    fn read_cpus(&self, dice: &mut Dice, tally: &mut Tally) {
+        let (peer, place) = (&self.pair.peer, self.records());
+        if dice.below(place as u64 + 2) < 2 {
+            check_cpus(dice, peer, &self.log, place);
+            tally.count_cpus_read(peer.state);
         }
     }
 
@@ -108,7 +119,7 @@ impl Walk {
         if Function::from_x0(call.x0) == Some(Function::Activate) {
             let ask = without_x0(call);
             let why = ask_why(dice, board, log, place, &ask);
-            check_why(dice, peer, board, log, place, &ask, why);
+            check_why(dice, peer, log, place, &ask, why);
         }
         let read = ask_starts(dice, board, log, place, call);
         Some(read.expect("a good log"))

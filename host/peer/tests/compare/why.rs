@@ -4,10 +4,10 @@
 use crate::boards;
 use crate::logs::{self, full_walk};
 use crate::story::{record_of, refused_cpu, Change, Story, CHANGES};
-use crate::tally::{add, exactly};
+use crate::tally::{add, each_of, exactly};
 use crate::walks::Walk;
 use common::boards::packed;
-use common::convert::{reason_number, state_number};
+use common::convert::{reason_number, state_number, STATES};
 use common::dice::Dice;
 use common::generate::any_activate;
 use common::pair::{ask_why, same};
@@ -16,7 +16,7 @@ use std::collections::BTreeMap;
 use std::ops::Range;
 
 /// The reasons of each state, by their numbers. In together nobody can call.
-const REASONS: [&[u64]; 9] = [
+const REASONS: [&[u64]; STATES] = [
     &[1],
     &[2],
     &[3],
@@ -26,10 +26,11 @@ const REASONS: [&[u64]; 9] = [
     &[5, 6, 9, 11],
     &[5, 6, 9, 12],
     &[4],
+    &[15],
 ];
 
 /// The refusals of the caller in each state.
-const CALLERS: [&[u64]; 9] = [
+const CALLERS: [&[u64]; STATES] = [
     &[2, 3],
     &[2, 3, 4],
     &[2, 3],
@@ -39,13 +40,8 @@ const CALLERS: [&[u64]; 9] = [
     &[2, 3, 4],
     &[2, 3],
     &[2, 3],
+    &[2, 3, 4],
 ];
-
-/// The lists of all states as one.
-fn by_state(lists: [&'static [u64]; 9]) -> impl Iterator<Item = (usize, u64)> {
-    let lists = lists.into_iter().enumerate();
-    lists.flat_map(|(state, list)| list.iter().map(move |&number| (state, number)))
-}
 
 /// The number of the refusal, or 0.
 fn refusal_of(why: &Result<Reason, Flaw>) -> u64 {
@@ -76,8 +72,8 @@ fn whys_of_walks() {
             }
         }
     }
-    exactly("reasons by state", &reasons, by_state(REASONS));
-    exactly("callers refused by state", &callers, by_state(CALLERS));
+    exactly("reasons by state", &reasons, each_of(REASONS));
+    exactly("callers refused by state", &callers, each_of(CALLERS));
 }
 
 /// Where it stands among the records before the place.

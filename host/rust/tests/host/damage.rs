@@ -58,8 +58,8 @@ fn flags_are_0_or_1() {
 }
 
 #[test]
-fn states_are_0_to_8() {
-    for state in [9, 10, 255, 256, 1 << 32, u64::MAX] {
+fn states_are_0_to_9() {
+    for state in [10, 11, 255, 256, 1 << 32, u64::MAX] {
         damaged(&Host::usual(), "idle", |r| r.state = state);
         damaged(&Host::usual().ready(PLAIN), "ready", |r| r.state = state);
         damaged(&Host::usual().dead(), "dead", |r| r.state = state);
@@ -76,11 +76,13 @@ fn idle_and_dead_have_no_component() {
 
 #[test]
 fn the_states_component_is_pending() {
-    let host = Host::usual().ready(PLAIN);
-    for subject in [RESETS, 31, 32, u64::MAX] {
-        damaged(&host, "subject", |r| r.subject = subject);
+    let withdrawn = Host::usual().powered(2).withdrawn(PLAIN);
+    for host in [Host::usual().ready(PLAIN), withdrawn] {
+        for subject in [RESETS, 31, 32, u64::MAX] {
+            damaged(&host, "subject", |r| r.subject = subject);
+        }
+        damaged(&host, "version below the SVN", |r| r.version[0] = 4);
     }
-    damaged(&host, "version below the SVN", |r| r.version[0] = 4);
 }
 
 #[test]
@@ -131,6 +133,10 @@ fn held_cpus_fit_the_state() {
     damaged(&Host::usual(), "idle", held(&[0]));
     damaged(&Host::usual().preparing(PLAIN), "preparing", held(&[]));
     damaged(&Host::usual().preparing(PLAIN), "preparing", held(&[1]));
+    let withdrawn = Host::usual().powered(2).withdrawn(PLAIN);
+    damaged(&withdrawn, "withdrawn", held(&[]));
+    damaged(&withdrawn, "withdrawn", held(&[2]));
+    damaged(&withdrawn, "withdrawn", held(&[0, 1]));
     damaged(&Host::usual().gathering(PLAIN), "gathering", held(&[]));
     damaged(&Host::usual().gathering(PLAIN), "gathering", held(&[0, 1]));
     damaged(&Host::usual().gathering(PLAIN), "gathering", held(&[2]));

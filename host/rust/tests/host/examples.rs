@@ -2,7 +2,7 @@
 
 use common::boards::{described, usual, FIRST, OPTIONAL, PLAIN, RESETS, SVN};
 use common::events::*;
-use common::host::{fresh, prepared_at, returned, Host, UNTOUCHED};
+use common::host::{cpus_at, fresh, prepared_at, returned, Host, UNTOUCHED};
 use lfa::{
     function, status, Caller, Component, Cpus, Flaw, Freed, Refusal, Registers, Release, State,
     RECORD_BYTES,
@@ -170,6 +170,8 @@ fn a_log_has_1024_records_at_most() {
     let log = host.log.repeat(1024);
     assert_eq!(log.len(), 52_224);
     assert_eq!(prepared_at(&log, 1024).expect("a log").looked, 1024);
+    let cpus = [Ok(Cpus::of(&[0])), Ok(Cpus::default())];
+    assert_eq!(cpus_at(&log, 1024), cpus);
     let longer = host.log.repeat(1025);
     assert_eq!(longer.len(), 52_275);
     let flaw = Flaw {
@@ -177,6 +179,7 @@ fn a_log_has_1024_records_at_most() {
         place: 0,
     };
     assert_eq!(prepared_at(&longer, 0), Err(flaw));
+    assert_eq!(cpus_at(&longer, 0), [Err(flaw); 2]);
 }
 
 #[test]

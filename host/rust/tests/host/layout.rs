@@ -3,14 +3,14 @@
 use core::mem::{align_of, offset_of, size_of};
 
 use lfa::flat::{
-    self, Abi, Activate, Answer, Board, Call, Component, Cpus, Event, Found, Freed, Fresh, Image,
-    LogRecord, Prepared, Read, Record, Registers, Report, Started, Why, Written,
+    self, Abi, Activate, Answer, Board, Call, Component, Cpus, CpusAt, Event, Found, Freed, Fresh,
+    Image, LogRecord, Prepared, Read, Record, Registers, Report, Started, Why, Written,
 };
 
 #[test]
 fn the_library_is_the_one_that_the_wrapper_is_for() {
     let own = Abi {
-        number: 2,
+        number: 3,
         record: 2024,
         event: 88,
         answer: 80,
@@ -34,7 +34,7 @@ fn other_numbers_are_another_library() {
         |abi| &mut abi.answer,
     ];
     for change in changes {
-        for other in [0, 3, 81, 89, 2025, u64::MAX] {
+        for other in [0, 2, 4, 81, 89, 2025, u64::MAX] {
             let mut abi = Abi::OWN;
             *change(&mut abi) = other;
             let said = said_of(abi).expect("a message");
@@ -64,6 +64,7 @@ fn sizes() {
     assert_eq!(size_of::<Written>(), 16);
     assert_eq!(size_of::<Found>(), 16);
     assert_eq!(size_of::<Prepared>(), 40);
+    assert_eq!(size_of::<CpusAt>(), 24);
     assert_eq!(size_of::<Started>(), 32);
     assert_eq!(size_of::<Activate>(), 40);
     assert_eq!(size_of::<Why>(), 40);
@@ -135,6 +136,9 @@ fn places_in_answers() {
     assert_eq!(offset_of!(Prepared, place), 8);
     assert_eq!(offset_of!(Prepared, prepared), 16);
     assert_eq!(offset_of!(Prepared, looked), 32);
+    assert_eq!(offset_of!(CpusAt, refusal), 0);
+    assert_eq!(offset_of!(CpusAt, place), 8);
+    assert_eq!(offset_of!(CpusAt, cpus), 16);
     assert_eq!(offset_of!(Started, place), 8);
     assert_eq!(offset_of!(Started, started), 16);
     assert_eq!(offset_of!(Why, refusal), 0);

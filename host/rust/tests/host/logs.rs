@@ -2,10 +2,10 @@
 
 use common::boards::{described, usual, OPTIONAL, PLAIN, RESETS};
 use common::events::*;
-use common::host::{prepared_at, read_record, starts_at, why_at, write_log, Host};
+use common::host::{cpus_at, prepared_at, read_record, starts_at, why_at, write_log, Host};
 use lfa::{
-    code, flat, function, Activate, Answer, Call, Caller, Event, Flaw, Freed, LogRecord, Reason,
-    Refusal, Registers, Release, Report, RECORD_BYTES,
+    code, flat, function, status, Activate, Answer, Call, Caller, Cpus, Event, Flaw, Freed,
+    LogRecord, Reason, Refusal, Registers, Release, Report, RECORD_BYTES,
 };
 
 const NOTHING: Answer = Answer {
@@ -111,6 +111,16 @@ fn log() -> Vec<u8> {
 fn refused(log: &[u8], place: usize, number: u64, at: usize) {
     let flaw = prepared_at(log, place).expect_err("refused");
     assert_eq!((flaw.refusal.number(), flaw.place), (number, at));
+    assert_eq!(cpus_at(log, place), [Err(flaw); 2]);
+    let told = flat::CpusAt {
+        refusal: number,
+        place: at,
+        ..flat::CpusAt::default()
+    };
+    assert_eq!(
+        [flat::powered(log, place), flat::held(log, place)],
+        [told; 2]
+    );
     let started = starts_at(&board(), log, place, &Call::default());
     assert_eq!(started, Err(flaw));
     let why = why_at(&board(), log, place, &Activate::default());
@@ -157,6 +167,17 @@ fn an_unused_field_is_31_with_its_place() {
     refused(&log, 0, 32, 0);
 }
 
+/// The answer to a report that gives this X0.
+fn released(x0: u64) -> Answer {
+    Answer {
+        caller: Caller::Nothing,
+        release: Release::Returned(Freed {
+            x0,
+            ..Freed::default()
+        }),
+    }
+}
+
 #[test]
 fn an_x0_of_a_reset_is_31() {
     let mut host = Host::usual().together(RESETS);
@@ -165,16 +186,35 @@ fn an_x0_of_a_reset_is_31() {
     let last = host.log.len() / RECORD_BYTES - 1;
     *host.log.last_mut().expect("a log") = 1;
     refused(&host.log, 0, 31, last);
-    let released = |x0| Answer {
-        caller: Caller::Nothing,
-        release: Release::Returned(Freed {
-            x0,
-            ..Freed::default()
-        }),
-    };
     not_written(51, reset, released(1), Refusal::FIELD);
     let written = write_log(&mut [0; 51], &reset, &released(0));
     assert_eq!(written, Ok(RECORD_BYTES));
+}
+
+/// Whatever stands before it. Code 1 does not decide, with any X0.
+#[test]
+fn a_preparation_is_finished_by_an_x0_of_0() {
+    for x0 in [0, 1, 1 << 32, status(11), u64::MAX] {
+        for code in [0, 1, 3, 4, 6, 11] {
+            let mut log = log();
+            let mut record = [0; RECORD_BYTES];
+            let report = prime_report(OPTIONAL, code);
+            write_log(&mut record, &report, &released(x0)).expect("room");
+            log.extend(record);
+            let (prepared, looked) = match (code, x0) {
+                (1, _) => (Some(PLAIN), 2),
+                (0, 0) => (Some(OPTIONAL), 1),
+                _ => (None, 1),
+            };
+            let found = prepared_at(&log, 4).expect("a log");
+            assert_eq!((found.component, found.looked), (prepared, looked));
+            for component in [PLAIN, OPTIONAL] {
+                let call = from_cpu(0, activate(0, component));
+                let starts = prepared.filter(|&id| id == component);
+                assert_eq!(starts_at(&board(), &log, 4, &call), Ok(starts));
+            }
+        }
+    }
 }
 
 #[test]
@@ -187,6 +227,7 @@ fn a_log_of_other_bytes_is_refused() {
 fn an_empty_log_has_nothing_prepared() {
     let found = prepared_at(&[], 0).expect("a log");
     assert_eq!((found.component, found.looked), (None, 0));
+    assert_eq!(cpus_at(&[], 0), [Ok(Cpus::of(&[0])), Ok(Cpus::default())]);
     assert_eq!(starts_at(&board(), &[], 0, &Call::default()), Ok(None));
     let why = why_at(&board(), &[], 0, &Activate::default());
     assert_eq!(why, Ok(Reason::NothingPrepared));

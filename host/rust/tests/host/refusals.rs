@@ -98,7 +98,7 @@ fn a_call_from_a_held_cpu_is_4() {
         }
     }
     let held = in_every_state(PLAIN).map(|host| host.record.held().count());
-    assert_eq!(held, [0, 1, 0, 0, 1, 2, 1, 0, 0]);
+    assert_eq!(held, [0, 1, 0, 0, 1, 2, 1, 0, 0, 1]);
 }
 
 #[test]
@@ -106,8 +106,8 @@ fn a_report_without_its_job_is_5() {
     for host in in_every_state(PLAIN) {
         let state = host.record.state();
         for id in (0..5).chain([u64::MAX]) {
-            let prime_runs = state == State::Preparing(id);
-            let activate_runs = state == State::Together(id) || state == State::Alone(id);
+            let prime_runs = [State::Preparing(id), State::Withdrawn(id)].contains(&state);
+            let activate_runs = [State::Together(id), State::Alone(id)].contains(&state);
             for code in [0, 99].into_iter().filter(|_| !prime_runs) {
                 refused(host.clone(), prime_report(id, code), Refusal::NO_JOB);
             }
@@ -122,6 +122,8 @@ fn a_report_without_its_job_is_5() {
 fn a_code_that_is_not_allowed_is_6() {
     let preparing = Host::usual().preparing(PLAIN);
     refused(preparing, prime_report(PLAIN, 2), Refusal::CODE);
+    let withdrawn = Host::usual().powered(2).withdrawn(PLAIN);
+    refused(withdrawn, prime_report(PLAIN, 2), Refusal::CODE);
     let together = Host::usual().together(PLAIN);
     refused(together.clone(), activate_report(PLAIN, 1), Refusal::CODE);
     refused(together, activate_report(PLAIN, 12), Refusal::CODE);
@@ -144,10 +146,11 @@ fn an_image_for_no_capable_component_is_7() {
 #[test]
 fn an_image_for_the_states_component_is_8() {
     let subjects = [RESETS, RESETS, RESETS, RESETS, RESETS, OPTIONAL, OPTIONAL];
-    let [mut idle, of_a_component @ .., mut dead] = in_every_state(RESETS);
+    let [mut idle, of_a_component @ .., mut dead, withdrawn] = in_every_state(RESETS);
     for (host, subject) in of_a_component.into_iter().zip(subjects) {
         refused(host, image(subject, 6), Refusal::IN_USE);
     }
+    refused(withdrawn, image(RESETS, 6), Refusal::IN_USE);
     idle.take(image(RESETS, 6));
     dead.take(image(PLAIN, 6));
 }
@@ -190,7 +193,7 @@ fn a_damaged_record_comes_before_an_unknown_kind() {
             informed: 2,
             ..good
         },
-        flat::Record { state: 9, ..good },
+        flat::Record { state: 10, ..good },
         flat::Record { subject: 1, ..good },
         flat::Record {
             on: flat::Cpus::default(),

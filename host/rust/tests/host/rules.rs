@@ -21,14 +21,14 @@ fn says(k: u64) -> Caller {
 
 // In together no caller exists: see the refusals.
 #[rustfmt::skip]
-fn rows() -> [Row; 9] {
+fn rows() -> [Row; 10] {
     let primes = Caller::PrimeStarted;
     let starts = Caller::ActivationStarted;
     let held = Caller::Held;
     let with_two = |host: Host| host.powered(2);
     [
         (with_two(idle()), PLAIN, 0, primes, says(7), says(0)),
-        (with_two(Host::usual()).preparing(PLAIN), PLAIN, 0, says(2), says(7), says(2)),
+        (with_two(Host::usual()).preparing(PLAIN), PLAIN, 0, says(2), says(7), says(0)),
         (with_two(Host::usual().half_prepared(PLAIN)), PLAIN, 0, primes, says(7), says(0)),
         (with_two(Host::usual().ready(PLAIN)), PLAIN, 0, says(7), held, says(0)),
         (with_two(Host::usual().ready(OPTIONAL)), OPTIONAL, 1, says(7), starts, says(0)),
@@ -36,6 +36,7 @@ fn rows() -> [Row; 9] {
         (Host::usual().alone(), OPTIONAL, 1, says(7), says(2), says(2)),
         (Host::usual().half_activated(), OPTIONAL, 1, says(7), starts, says(0)),
         (Host::usual().dead(), PLAIN, 0, says(7), says(7), says(0)),
+        (with_two(Host::usual()).withdrawn(PLAIN), PLAIN, 0, says(2), says(7), says(0)),
     ]
 }
 
@@ -55,13 +56,15 @@ fn each_state_answers_prime_activate_and_cancel() {
 }
 
 #[test]
-fn cancel_leads_to_idle() {
+fn cancel_leads_to_idle_or_withdrawn() {
     for (mut host, component, .., cancel_given) in rows() {
         let (before, held) = (host.record.state(), host.record.held());
         let answer = host.take(call(1, cancel(component)));
         let (after, release) = match before {
             State::Dead => (State::Dead, Release::Nobody),
             State::Gathering(_) => (State::Idle, released(held, 11)),
+            State::Preparing(c) => (State::Withdrawn(c), Release::Nobody),
+            State::Withdrawn(_) => (before, Release::Nobody),
             _ if cancel_given == says(0) => (State::Idle, Release::Nobody),
             _ => (before, Release::Nobody),
         };
@@ -82,7 +85,7 @@ fn others(component: u64) -> [u64; 6] {
 fn for_another(state: State) -> [Caller; 3] {
     match state {
         State::Idle | State::Dead => [says(7), says(7), says(0)],
-        State::Preparing(_) => [says(2), says(7), says(8)],
+        State::Preparing(_) | State::Withdrawn(_) => [says(2), says(7), says(8)],
         State::HalfPrepared(_) => [says(7), says(7), says(8)],
         _ => [says(7), says(8), says(8)],
     }
@@ -163,11 +166,16 @@ fn the_last_cpu_stays_on() {
 
 #[test]
 fn a_held_cpu_keeps_the_board_on() {
-    let mut host = Host::usual().powered(3).preparing(PLAIN);
-    assert_eq!(host.call(1, CPU_OFF), Caller::Gone);
-    assert_eq!(host.call(2, CPU_OFF), Caller::Gone);
-    let answer = host.take(prime_report(PLAIN, 0));
-    assert_eq!(answer.release, released(Cpus::of(&[0]), 0));
+    let three = || Host::usual().powered(3);
+    for (mut host, code) in [
+        (three().preparing(PLAIN), 0),
+        (three().withdrawn(PLAIN), 11),
+    ] {
+        assert_eq!(host.call(1, CPU_OFF), Caller::Gone);
+        assert_eq!(host.call(2, CPU_OFF), Caller::Gone);
+        let answer = host.take(prime_report(PLAIN, 0));
+        assert_eq!(answer.release, released(Cpus::of(&[0]), code));
+    }
 }
 
 #[test]
@@ -195,7 +203,8 @@ fn activate_says_what_is_wrong() {
 fn flags_that_do_not_fit_are_wrong() {
     for (mut host, component, ..) in rows() {
         let k = match host.record.state() {
-            State::Idle | State::Preparing(_) | State::HalfPrepared(_) | State::Dead => 7,
+            State::Idle | State::Preparing(_) | State::HalfPrepared(_) => 7,
+            State::Dead | State::Withdrawn(_) => 7,
             _ => 8,
         };
         // Skip is for optional components alone.
@@ -235,29 +244,38 @@ fn released(cpus: Cpus, code: u64) -> Release {
     })
 }
 
-/// The state after a prime report, if the code is allowed.
-fn after_prime(code: u64) -> Option<State> {
-    match code {
-        0 => Some(State::Ready(PLAIN)),
-        1 => Some(State::HalfPrepared(PLAIN)),
-        3 | 4 | 6 | 11 => Some(State::Idle),
+/// The state after a prime report and the code that CPUs are released with, if the code is allowed.
+fn after_prime(state: State, code: u64) -> Option<(State, u64)> {
+    match (state, code) {
+        (State::Withdrawn(_), 0 | 1 | 3 | 4 | 6 | 11) => Some((State::Idle, 11)),
+        (State::Preparing(c), 0) => Some((State::Ready(c), code)),
+        (State::Preparing(c), 1) => Some((State::HalfPrepared(c), code)),
+        (State::Preparing(_), 3 | 4 | 6 | 11) => Some((State::Idle, code)),
         _ => None,
     }
 }
 
 #[test]
 fn prime_reports() {
-    for code in codes() {
-        let mut host = Host::usual().preparing(PLAIN);
-        let answer = host.tell(prime_report(PLAIN, code));
-        let expected = match after_prime(code) {
-            Some(next) => Ok((Caller::Nothing, released(Cpus::of(&[0]), code), next)),
-            None => Err(Refusal::CODE),
-        };
-        let seen = answer.map(|a| (a.caller, a.release, host.record.state()));
-        assert_eq!(seen, expected, "code {code}");
-        assert_eq!(host.record.pending(PLAIN), Some(SVN));
+    let two = || Host::usual().powered(2);
+    for host in [two().preparing(PLAIN), two().withdrawn(PLAIN)] {
+        for code in codes() {
+            check_prime_report(host.clone(), code);
+        }
     }
+}
+
+fn check_prime_report(mut host: Host, code: u64) {
+    let before = host.record.state();
+    let answer = host.tell(prime_report(PLAIN, code));
+    let held = Cpus::of(&[0]);
+    let expected = match after_prime(before, code) {
+        Some((next, given)) => Ok((Caller::Nothing, released(held, given), next)),
+        None => Err(Refusal::CODE),
+    };
+    let seen = answer.map(|a| (a.caller, a.release, host.record.state()));
+    assert_eq!(seen, expected, "{before:?}, code {code}");
+    assert_eq!(host.record.pending(PLAIN), Some(SVN));
 }
 
 /// The state after an activate report, if the code is allowed.

@@ -37,6 +37,7 @@ fn each_state_says_why() {
         Ok(Reason::OtherComponent(OPTIONAL)),
         Ok(Reason::OtherComponent(OPTIONAL)),
         Ok(Reason::BoardDead),
+        Ok(Reason::Withdrawn(PLAIN)),
     ];
     assert_eq!(told, expected);
 }
@@ -229,4 +230,22 @@ fn only_what_the_reason_names_is_given() {
     };
     assert_eq!(numbers(0, 99), other);
     assert_eq!(numbers(2, RESETS), flat::Why { refusal: 3, ..none });
+}
+
+/// The reason goes with the report, whatever its code is.
+#[test]
+fn withdrawn_is_a_reason_until_the_report() {
+    for code in [0, 1, 3, 4, 6, 11] {
+        let mut host = Host::usual().powered(2).withdrawn(RESETS);
+        for x in [activate(1, RESETS), skip(RESETS), activate(1, 99)] {
+            assert_eq!(host.why(1, x), Ok(Reason::Withdrawn(RESETS)));
+        }
+        let caller = refused(Refusal::CPU_HELD, 0);
+        assert_eq!(host.why(0, activate(0, RESETS)), caller);
+        host.take(prime_report(RESETS, code));
+        assert_eq!(
+            host.why(0, activate(0, RESETS)),
+            Ok(Reason::NothingPrepared)
+        );
+    }
 }

@@ -24,7 +24,8 @@ fn states_from_numbers() {
     }
     assert_eq!(State::from_numbers(0, 0), Some(State::Idle));
     assert_eq!(State::from_numbers(8, 0), Some(State::Dead));
-    for (number, subject) in [(0, 1), (8, 1), (9, 0), (u64::MAX, 0)] {
+    assert_eq!(State::from_numbers(9, 7), Some(State::Withdrawn(7)));
+    for (number, subject) in [(0, 1), (8, 1), (10, 0), (u64::MAX, 0)] {
         assert_eq!(State::from_numbers(number, subject), None);
     }
 }
@@ -113,6 +114,7 @@ fn reasons_from_numbers() {
         Reason::Skipped,
         Reason::Held(missing),
         Reason::AllPresent,
+        Reason::Withdrawn(7),
     ];
     for (number, reason) in (1..).zip(reasons) {
         let why = flat::Why {
@@ -141,10 +143,10 @@ fn a_refusal_comes_before_a_reason() {
 }
 
 #[test]
-#[should_panic(expected = "no reason has the number 15")]
+#[should_panic(expected = "no reason has the number 16")]
 fn another_number_is_no_reason() {
     let _ = Reason::from_flat(flat::Why {
-        reason: 15,
+        reason: 16,
         ..flat::Why::default()
     });
 }

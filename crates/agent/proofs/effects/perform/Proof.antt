@@ -1,4 +1,4 @@
--- One case for each of the thirteen moves: told which it is, `performOf` computes to what the call there promises.
+-- One case for each of the fifteen moves: told which it is, `performOf` computes to what the call there promises.
 use borrow.Author.Needs.{needs}
 use Rattle.agent.proofs.effects.perform.Statement.{statement}
 use Rattle.agent.proofs.effects.perform.Tie as tie
@@ -54,29 +54,41 @@ to-idle-requires c κs = search needs
 enum-known-m-7 : tie.Need-enum-known-m-7
 enum-known-m-7 c = search needs
 
-power-off-requires : tie.Need-power-off-requires
-power-off-requires c κs = search needs
+withdraw-requires : tie.Need-withdraw-requires
+withdraw-requires c κs = search needs
 
 enum-known-m-8 : tie.Need-enum-known-m-8
 enum-known-m-8 c = search needs
 
-power-on-requires : tie.Need-power-on-requires
-power-on-requires c κs = search needs
+power-off-requires : tie.Need-power-off-requires
+power-off-requires c κs = search needs
 
 enum-known-m-9 : tie.Need-enum-known-m-9
 enum-known-m-9 c = search needs
 
-end-prime-requires : tie.Need-end-prime-requires
-end-prime-requires c κs = search needs
+power-on-requires : tie.Need-power-on-requires
+power-on-requires c κs = search needs
 
 enum-known-m-10 : tie.Need-enum-known-m-10
 enum-known-m-10 c = search needs
 
-end-activate-requires : tie.Need-end-activate-requires
-end-activate-requires c κs = search needs
+end-prime-requires : tie.Need-end-prime-requires
+end-prime-requires c κs = search needs
+
+enum-told-3 : tie.Need-enum-told-3
+enum-told-3 c = search needs
+
+end-withdrawn-requires : tie.Need-end-withdrawn-requires
+end-withdrawn-requires c κs = search needs
 
 enum-known-m-11 : tie.Need-enum-known-m-11
 enum-known-m-11 c = search needs
+
+end-activate-requires : tie.Need-end-activate-requires
+end-activate-requires c κs = search needs
+
+enum-known-m-12 : tie.Need-enum-known-m-12
+enum-known-m-12 c = search needs
 
 note-image-requires : tie.Need-note-image-requires
 note-image-requires c κs = search needs
@@ -106,19 +118,25 @@ returns-8 : tie.Need-returns-8
 returns-8 c = rw (c .before .enum-told2 .given .1) (c .to-idle .ensures)
 
 returns-9 : tie.Need-returns-9
-returns-9 c = rw (c .before .before .m7 .given .1) (c .power-off .ensures)
+returns-9 c = rw (c .before .before .m7 .given .1) (c .withdraw .ensures)
 
 returns-10 : tie.Need-returns-10
-returns-10 c = rw (c .before .before .m8 .given .1) (c .power-on .ensures)
+returns-10 c = rw (c .before .before .m8 .given .1) (c .power-off .ensures)
 
 returns-11 : tie.Need-returns-11
-returns-11 c = rw (c .before .before .m9 .given .1) (c .end-prime .ensures)
+returns-11 c = rw (c .before .before .m9 .given .1) (c .power-on .ensures)
 
 returns-12 : tie.Need-returns-12
-returns-12 c = rw (c .before .before .m10 .given .1) (c .end-activate .ensures)
+returns-12 c = rw (c .before .before .m10 .given .1) (c .end-prime .ensures)
 
 returns-13 : tie.Need-returns-13
-returns-13 c = rw (c .before .before .m11 .given .1) (c .note-image .ensures)
+returns-13 c = rw (c .before .enum-told3 .given .1) (c .end-withdrawn .ensures)
+
+returns-14 : tie.Need-returns-14
+returns-14 c = rw (c .before .before .m11 .given .1) (c .end-activate .ensures)
+
+returns-15 : tie.Need-returns-15
+returns-15 c = rw (c .before .before .m12 .given .1) (c .note-image .ensures)
 
 pub perform-spec : {M : Type 1} → statement M
 perform-spec =
@@ -141,14 +159,18 @@ perform-spec =
     enum-told-2
     to-idle-requires
     enum-known-m-7
-    power-off-requires
+    withdraw-requires
     enum-known-m-8
-    power-on-requires
+    power-off-requires
     enum-known-m-9
-    end-prime-requires
+    power-on-requires
     enum-known-m-10
-    end-activate-requires
+    end-prime-requires
+    enum-told-3
+    end-withdrawn-requires
     enum-known-m-11
+    end-activate-requires
+    enum-known-m-12
     note-image-requires
     returns
     returns-2
@@ -162,4 +184,6 @@ perform-spec =
     returns-10
     returns-11
     returns-12
-    returns-13)
+    returns-13
+    returns-14
+    returns-15)

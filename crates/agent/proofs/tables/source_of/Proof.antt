@@ -1,4 +1,4 @@
--- One case for each of the thirteen moves: told which it is, `sourceOf` computes to what is returned.
+-- One case for each of the fifteen moves: told which it is, `sourceOf` computes to what is returned.
 use borrow.Author.Needs.{needs}
 use Rattle.agent.proofs.tables.source_of.Statement.{statement}
 use Rattle.agent.proofs.tables.source_of.Tie as tie
@@ -30,17 +30,23 @@ enum-told-8 c = search needs
 enum-told-9 : tie.Need-enum-told-9
 enum-told-9 c = search needs
 
-enum-known-m : tie.Need-enum-known-m
-enum-known-m c = search needs
-
 enum-told-10 : tie.Need-enum-told-10
 enum-told-10 c = search needs
+
+enum-known-m : tie.Need-enum-known-m
+enum-known-m c = search needs
 
 enum-told-11 : tie.Need-enum-told-11
 enum-told-11 c = search needs
 
 enum-told-12 : tie.Need-enum-told-12
 enum-told-12 c = search needs
+
+enum-told-13 : tie.Need-enum-told-13
+enum-told-13 c = search needs
+
+enum-told-14 : tie.Need-enum-told-14
+enum-told-14 c = search needs
 
 returns : tie.Need-returns
 returns c = search needs
@@ -70,16 +76,22 @@ returns-9 : tie.Need-returns-9
 returns-9 c = search needs
 
 returns-10 : tie.Need-returns-10
-returns-10 c = rw (c .before .m .given .1)
+returns-10 c = search needs
 
 returns-11 : tie.Need-returns-11
-returns-11 c = search needs
+returns-11 c = rw (c .before .m .given .1)
 
 returns-12 : tie.Need-returns-12
 returns-12 c = search needs
 
 returns-13 : tie.Need-returns-13
 returns-13 c = search needs
+
+returns-14 : tie.Need-returns-14
+returns-14 c = search needs
+
+returns-15 : tie.Need-returns-15
+returns-15 c = search needs
 
 pub source-of-spec : {M : Type 1} → statement M
 source-of-spec =
@@ -94,10 +106,12 @@ source-of-spec =
     enum-told-7
     enum-told-8
     enum-told-9
-    enum-known-m
     enum-told-10
+    enum-known-m
     enum-told-11
     enum-told-12
+    enum-told-13
+    enum-told-14
     returns
     returns-2
     returns-3
@@ -110,4 +124,6 @@ source-of-spec =
     returns-10
     returns-11
     returns-12
-    returns-13)
+    returns-13
+    returns-14
+    returns-15)

@@ -33,12 +33,15 @@ returns-9 : tie.Need-returns-9
 returns-9 c = rw (c .match .keys9)
 
 returns-10 : tie.Need-returns-10
-returns-10 c =
+returns-10 c = rw (c .match .keys10)
+
+returns-11 : tie.Need-returns-11
+returns-11 c =
     let r = c .match .rest in
     let n = c .before .args .number in
-    let first = r .0 .0 .0 .0 in
+    let first = r .0 .0 .0 .0 .0 in
     let over : 5 ≤ n = omega (arith, first .0 .0 .0 .0 .1, first .0 .0 .0 .1, first .0 .0 .1, first .0 .1, first .1) in
-    past-order n _ (omega (arith, over, r .0 .0 .0 .1, r .0 .0 .1, r .0 .1, r .1))
+    past-order n _ (omega (arith, over, r .0 .0 .0 .0 .1, r .0 .0 .0 .1, r .0 .0 .1, r .0 .1, r .1))
 
 pub state-spec : {M : Type 1} → statement M
 state-spec =
@@ -53,4 +56,5 @@ state-spec =
     returns-7
     returns-8
     returns-9
-    returns-10)
+    returns-10
+    returns-11)

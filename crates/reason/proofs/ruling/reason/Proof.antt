@@ -6,7 +6,7 @@ use lib.Dec.{eqb}
 use borrow.Author.Tests.{eq-eqb, ne-eqb}
 use Rattle.basics.specs.Choice.{yes, no}
 use Rattle.reason.specs.Reason.{reasonOf}
-use Rattle.reason.specs.declared.Reason.the-variants.{BeingPrepared, HalfPrepared}
+use Rattle.reason.specs.declared.Reason.the-variants.{BeingPrepared, HalfPrepared, WasWithdrawn}
 use borrow.Author.Needs.{needs}
 use Rattle.reason.proofs.ruling.reason.Statement.{statement}
 use Rattle.reason.proofs.ruling.reason.Tie as tie
@@ -56,18 +56,35 @@ returns-4 c =
     let q = e .before .place-of .ensures in
     no _ (isnt q (e .if1 .left)) (no _ (isnt q (f .if2 .left)) (no _ (isnt q (g .if3 .left)) (yes _ (is q (c .if4 .taken)) refl)))
 
-asked-requires : tie.Need-asked-requires
-asked-requires c κs = search needs
+subject-number-requires-3 : tie.Need-subject-number-requires-3
+subject-number-requires-3 c κs = search needs
 
 returns-5 : tie.Need-returns-5
 unfolding reasonOf
 returns-5 c =
-    let h = c .before in
+    let t = c .before in
+    let h = t .before in
     let g = h .before in
     let f = g .before in
     let e = f .before in
     let q = e .before .place-of .ensures in
-    no _ (isnt q (e .if1 .left)) (no _ (isnt q (f .if2 .left)) (no _ (isnt q (g .if3 .left)) (no _ (isnt q (h .if4 .left)) (c .asked .ensures))))
+    no _ (isnt q (e .if1 .left)) (no _ (isnt q (f .if2 .left)) (no _ (isnt q (g .if3 .left)) (no _ (isnt q (h .if4 .left))
+    (yes _ (is q (t .if5 .taken)) (ap WasWithdrawn (c .subject-number3 .ensures))))))
+
+asked-requires : tie.Need-asked-requires
+asked-requires c κs = search needs
+
+returns-6 : tie.Need-returns-6
+unfolding reasonOf
+returns-6 c =
+    let i = c .before in
+    let h = i .before in
+    let g = h .before in
+    let f = g .before in
+    let e = f .before in
+    let q = e .before .place-of .ensures in
+    no _ (isnt q (e .if1 .left)) (no _ (isnt q (f .if2 .left)) (no _ (isnt q (g .if3 .left)) (no _ (isnt q (h .if4 .left))
+    (no _ (isnt q (i .if5 .left)) (c .asked .ensures)))))
 
 pub reason-spec : {M : Type 1} → statement M
 reason-spec =
@@ -80,5 +97,7 @@ reason-spec =
     subject-number-requires-2
     returns-3
     returns-4
+    subject-number-requires-3
+    returns-5
     asked-requires
-    returns-5)
+    returns-6)

@@ -11,12 +11,15 @@ is-priming-requires c κs = search needs
 is-prime-code-requires : tie.Need-is-prime-code-requires
 is-prime-code-requires c κs = search needs
 
+ending-requires : tie.Need-ending-requires
+ending-requires c κs = search needs
+
 returns : tie.Need-returns
 unfolding primeReportOf
 returns c =
-    let first = c .before .before in
+    let first = c .before .before .before in
     yes _ (by (first .before .is-priming .ensures) (first .if1 .taken))
-    (yes _ (by (c .before .is-prime-code .ensures) (c .if2 .taken)) refl)
+    (yes _ (by (c .before .before .is-prime-code .ensures) (c .before .if2 .taken)) (c .ending .ensures))
 
 returns-2 : tie.Need-returns-2
 unfolding primeReportOf
@@ -31,4 +34,4 @@ returns-3 c = no _ (by (c .before .is-priming .ensures) (c .if1 .left)) refl
 
 pub prime-spec : {M : Type 1} → statement M
 prime-spec =
-    tie.close (tie.spec is-priming-requires is-prime-code-requires returns returns-2 returns-3)
+    tie.close (tie.spec is-priming-requires is-prime-code-requires ending-requires returns returns-2 returns-3)
