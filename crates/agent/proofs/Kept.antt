@@ -5,7 +5,7 @@ use mathlib.Core.Bool.{Bool, true, false, _&&_}
 use mathlib.Core.List.{List, [], _∷_}
 use native.Mathlib.Omega.{arith}
 use lib.Dec.{leb}
-use lib.ListN.{set, length-set}
+use lib.ListN.{length, set, length-set}
 use borrow.Author.Tests.{lt-ltb, leb-true, le-leb}
 use Rattle.basics.specs.Choice.{pick, pick-cases, not-both, and-left, and-right}
 use Rattle.codes.specs.declared.Call.{Call}
@@ -260,13 +260,20 @@ settled-sized : (r : Record) (s : State) → Sized r → Sized (settledOf r s)
 unfolding settledOf
 settled-sized r s z = record { pending = z .pending; version = z .version; entry = refl; context = refl }
 
-withdrawn-sized : (r : Record) (id : ℕ) → Sized r → Sized (withdrawnOf r id)
-unfolding withdrawnOf
-withdrawn-sized r id z = record { pending = z .pending; version = z .version; entry = z .entry; context = z .context }
+-- a record with the same tables
+abbrev Tables : Type 0
+Tables = List Bool × List ℕ × List ℕ × List ℕ
 
-powered-sized : (r : Record) (on : CpuSet) → Sized r → Sized (poweredOf r on)
-unfolding poweredOf
-powered-sized r on z = record { pending = z .pending; version = z .version; entry = z .entry; context = z .context }
+abbrev tables : Record → Tables
+tables r = (r .pending, r .version, r .entry, r .context)
+
+same-sized : (r next : Record) → tables next ≡ tables r → Sized r → Sized next
+same-sized r next q z = record {
+  pending = ap (λ (t : Tables). length (t .0)) q ∙ z .pending;
+  version = ap (λ (t : Tables). length (t .1)) q ∙ z .version;
+  entry = ap (λ (t : Tables). length (t .2)) q ∙ z .entry;
+  context = ap (λ (t : Tables). length (t .3)) q ∙ z .context;
+}
 
 imaged-sized : (r : Record) (id : ℕ) (now : Bool) (v : ℕ) → Sized r → Sized (imagedOf r id now v)
 unfolding imagedOf
@@ -285,7 +292,7 @@ noted : (r : Record) (now : Bool) → WellFormed r → Sized r → Keeps (inform
 unfolding informedOf
 noted r now w z = (
   record { board = w .board; powered = w .powered; images = w .images; state = w .state; held = w .held; entries = w .entries },
-  record { pending = z .pending; version = z .version; entry = z .entry; context = z .context },
+  same-sized r (informedOf r now) refl z,
 )
 
 -- a done activation: its image is pending no more
@@ -305,7 +312,7 @@ ended-kept r e p w z g =
 
 -- ---- every move
 performed : (r : Record) (e : Event) (m : Move) → WellFormed r → Sized r → Facts r e m → Keeps (performOf r m .rec)
-unfolding refusedOf acceptedOf
+unfolding refusedOf acceptedOf withdrawnOf poweredOf
 performed r e (move.Refuse x) w z g = (w, z)
 performed r e (move.Return x) w z g = (w, z)
 performed r e move.NoteInfo w z g = noted r true w z
@@ -314,9 +321,9 @@ performed r e (move.Gather a) w z g = (gathering-kept r w z e a g, joined-sized 
 performed r e (move.StartTogether a) w z g = (together-kept r w z e a g, joined-sized r _ a z)
 performed r e (move.StartAlone a) w z g = (skip-kept r w z e a g, joined-sized r _ a z)
 performed r e move.ToIdle w z g = (idle-kept r w z, settled-sized r Idle z)
-performed r e (move.Withdraw id) w z g = (withdrawn-kept r w z e id g, withdrawn-sized r id z)
-performed r e (move.PowerOff cpu) w z g = (off-kept r w z e cpu g, powered-sized r _ z)
-performed r e (move.PowerOn x) w z g = (on-kept r w z e x g, powered-sized r _ z)
+performed r e (move.Withdraw id) w z g = (withdrawn-kept r w z e id g, same-sized r (withdrawnOf r id) refl z)
+performed r e (move.PowerOff cpu) w z g = (off-kept r w z e cpu g, same-sized r (poweredOf r (withoutOf (r .on) cpu)) refl z)
+performed r e (move.PowerOn x) w z g = (on-kept r w z e x g, same-sized r (poweredOf r (withOf (r .on) (x .target))) refl z)
 performed r e (move.EndPrime p) w z g = (end-prime-kept r w z e p g, settled-sized r (afterPrime p) z)
 performed r e move.EndWithdrawn w z g = (idle-kept r w z, settled-sized r Idle z)
 performed r e (move.EndActivate p) w z g = ended-kept r e p w z g
