@@ -1,7 +1,7 @@
 /*
- * The live firmware activation agent, as a host links it: a board's description and its record, one event at a time, the log, and
- * five questions that a log answers. The rules are document 01's and 02's; C99, and C++ as well. host/c/monitor.c is a monitor to
- * copy.
+ * The live firmware activation agent, as a host links it: a board's description and its record, one event at a time, the log, five
+ * questions that a log answers, and a reader of logs that arrive in deliveries. The rules are document 01's and 02's; C99, and C++ as
+ * well. host/c/monitor.c is a monitor to copy.
  *
  * All that crosses is numbers, arrays of numbers, and structs of these. Whatever they hold, the answer is a stated one: nothing
  * here aborts, allocates or keeps anything between two calls. The library has no data that changes, its code may lie anywhere, and it
@@ -34,7 +34,7 @@
  * - It brings the end of every job to lfa_step. A CANCEL that returns 0 while a prime job runs does not end it and lets nobody go:
  *   the host may stop the job or let it go on, but its report has to come, and only that lets the CPU go that waits for it (-11).
  * - A record that is stored stays with its LFA_ABI and on hosts of this byte order: another library may take its bytes for others.
- *   Board descriptions and logs are the same bytes everywhere.
+ *   So does a reader of deliveries. Board descriptions and logs are the same bytes everywhere.
  *
  * How to log: an event that lfa_step accepted can't be taken back, and a log that ends while CPUs wait would leave them waiting:
  * the report that lets them go could not be logged. So step a copy of the record, and keep the copy only where the log has room
@@ -42,7 +42,7 @@
  * powered CPU that is not held, and the report. Then lfa_log writes what was kept, and whoever waits is let go before the log
  * ends. host/c/monitor.c does this, and says what becomes of a CPU whose call is kept back. With LFA_MOST_LOG_RECORDS records a
  * log is full: store it away, and begin the next one with a board that starts fresh. The questions read a log from a fresh board
- * on, so of a log that begins later they know too little; lfa_read_record reads any.
+ * on, so of a log that begins later they know too little; lfa_read_record and lfa_lead_take read any.
  *
  * Bytes between the fields of a struct (padding) are never looked at, and may change.
  */
@@ -66,10 +66,10 @@ extern "C" {
 /*
  * The number of this boundary: it rises with every change of a layout or of what a number means, so with a new kind, state,
  * caller's part, release, code or reason as well, and where a function takes more stack than LFA_STACK_ said. lfa_abi gives the
- * library's. From 1 to 3 the layout of the record is the same: one that was stored under 1 or 2 is good under 3. A library of 1 or 2
- * does not know LFA_STATE_WITHDRAWN, and refuses a record with it: 9.
+ * library's. From 1 to 4 the layout of the record is the same: one that was stored under 1, 2 or 3 is good under 4. A library of 1
+ * or 2 does not know LFA_STATE_WITHDRAWN, and refuses a record with it: 9. Readers of deliveries (struct lfa_lead) came with 4.
  */
-#define LFA_ABI 3
+#define LFA_ABI 4
 
 /* The library's calling convention, where the compiler has others and can be told. */
 #if defined(__GNUC__) && defined(__x86_64__)
@@ -81,7 +81,7 @@ extern "C" {
 /*
  * Bytes of stack that a call takes at most, on either machine, counted from the compiled code of both (host/stack): on x86-64 from
  * its return address down, the red zone included; on AArch64 from the stack pointer at its entry. Structs that are passed and given
- * lie in the caller's own frame and come on top: 2,032 bytes for lfa_fresh, 816 for lfa_describe, 184 at most for each other. What
+ * lie in the caller's own frame and come on top: 2,032 bytes for lfa_fresh, 816 for lfa_describe, 304 at most for each other. What
  * memcpy and memset take is on top too, on x86-64 beyond a red zone.
  */
 #define LFA_STACK_ABI 1024
@@ -95,15 +95,19 @@ extern "C" {
 #define LFA_STACK_HELD 1024
 #define LFA_STACK_STARTS 8192
 #define LFA_STACK_WHY 27648
+#define LFA_STACK_LEAD_OPEN 1024
+#define LFA_STACK_LEAD_TAKE 1024
+#define LFA_STACK_LEAD_CLOSE 1024
 
 /* ---- Limits ---- */
 
 enum lfa_limit {
-    LFA_MOST_COMPONENTS = 32,   /* components that a board has at most */
-    LFA_MOST_CPUS = 64,         /* CPUs that a board has at most */
-    LFA_UUID_BYTES = 16,        /* bytes of a UUID */
-    LFA_LOG_RECORD_BYTES = 51,  /* bytes of a log record */
-    LFA_MOST_LOG_RECORDS = 1024 /* records that a log has at most */
+    LFA_MOST_COMPONENTS = 32,    /* components that a board has at most */
+    LFA_MOST_CPUS = 64,          /* CPUs that a board has at most */
+    LFA_UUID_BYTES = 16,         /* bytes of a UUID */
+    LFA_LOG_RECORD_BYTES = 51,   /* bytes of a log record */
+    LFA_MOST_LOG_RECORDS = 1024, /* records that a log has at most */
+    LFA_MOST_KEPT = 50           /* bytes that a reader keeps between two deliveries at most: one less than a record has */
 };
 
 /* The length of a board description with n components. */
@@ -189,9 +193,17 @@ enum lfa_state {
     LFA_STATE_WITHDRAWN = 9  /* a prime job runs whose preparation was cancelled */
 };
 
+/* Where a reader of deliveries stands. */
+enum lfa_standing {
+    LFA_STANDING_OPEN = 0,   /* it takes deliveries */
+    LFA_STANDING_CLOSED = 1, /* the log has ended, and all of it was read */
+    LFA_STANDING_REFUSED = 2 /* the log is refused */
+};
+
 /*
  * The numbers of the refusals. The first that applies is given; for events that is 9, then 1, then 32 for an unknown kind or
- * the rest; for writing a board 22, then 26, 23, 24, 25, 27. A refusal is the whole answer, and all that was lent is as it was.
+ * the rest; for writing a board 22, then 26, 23, 24, 25, 27; for a delivery and for closing 37, then 36 or what was refused before,
+ * then the rest. A refusal is the whole answer, and all that was lent is as it was.
  *
  * 31: a component of 32 or more, a version over 32 bits or, in writing, a CPU of 64 or more.
  */
@@ -214,12 +226,14 @@ enum lfa_refusal {
     LFA_REFUSAL_UUID_TWICE = 25,      /* board: UUID twice */
     LFA_REFUSAL_COUNT = 26,           /* writing a board: no, or too many, components or CPUs */
     LFA_REFUSAL_NO_BOARD_ROOM = 27,   /* writing a board: no room for its bytes */
-    LFA_REFUSAL_LOG_TOO_SHORT = 30,   /* log: under 51 bytes left */
+    LFA_REFUSAL_LOG_TOO_SHORT = 30,   /* log: under 51 bytes left; lead: bytes left over at closing */
     LFA_REFUSAL_FIELD = 31,           /* log: unused field not 0, or a number too large for its field (above) */
     LFA_REFUSAL_UNKNOWN = 32,         /* log: kind, outcome or code unknown; event: kind unknown */
-    LFA_REFUSAL_LOG = 33,             /* log: part of a record, over 1,024 of them, or a place past the end */
+    LFA_REFUSAL_LOG = 33,             /* log: part of a record, over 1,024 of them, or a place past the end; lead: over 1,024 alone */
     LFA_REFUSAL_NO_ROOM = 34,         /* no room for 51 bytes */
-    LFA_REFUSAL_DEPARTS = 35          /* log: the rules refuse a record's event, or answer it otherwise than the record says */
+    LFA_REFUSAL_DEPARTS = 35,         /* log: the rules refuse a record's event, or answer it otherwise than the record says */
+    LFA_REFUSAL_CLOSED = 36,          /* lead: a delivery or a second close after a good close */
+    LFA_REFUSAL_NO_READER = 37        /* lead: a state that no reader has */
 };
 
 /*
@@ -391,6 +405,46 @@ struct lfa_read {
     struct lfa_log_record record; /* all 0 if refused */
 };
 
+/*
+ * A reader of a log that arrives in deliveries: lfa_lead_open makes it, the host keeps it, lfa_lead_take and lfa_lead_close give the
+ * one to go on with. It may be copied and stored; a copy goes on from where it was made.
+ *
+ * Each call looks first whether this is what a reader can have, and if not refuses it with 37. No reader has:
+ * - a standing that is none of the three;
+ * - a refusal or a place other than 0 where it is not refused, and where it is, a refusal that is none of 30 to 33;
+ * - with 30, 31 and 32 a place that is not the number of records, or 1,024 records;
+ * - with 33 a place other than 0, or a number of records other than 1,024;
+ * - over 1,024 records, or over 50 bytes kept;
+ * - bytes kept where it is not open, or where 1,024 records were given;
+ * - a byte other than 0 past those that are kept.
+ */
+struct lfa_lead {
+    uint64_t standing;           /* an enum lfa_standing */
+    uint64_t refusal;            /* with LFA_STANDING_REFUSED 30 to 33; else 0 */
+    size_t place;                /* with 30, 31 and 32 the place of the record to blame; else 0 */
+    size_t records;              /* how many records were given */
+    size_t length;               /* how many bytes are kept */
+    uint8_t kept[LFA_MOST_KEPT]; /* the first bytes of the next record; zeros past the length */
+};
+
+/* The answer of lfa_lead_take. */
+struct lfa_taken {
+    struct lfa_lead lead;         /* go on with this one */
+    uint64_t refusal;             /* 0, or 30, 31, 32, 33, 36, 37 */
+    size_t place;                 /* if refused, the place of the record to blame; 0 with 33, 36, 37, and if not refused */
+    size_t used;                  /* how many bytes of the delivery were used; 0 if refused */
+    uint64_t given;               /* 1 where a record is given, else 0 */
+    struct lfa_log_record record; /* all 0 where none is given */
+};
+
+/* The answer of lfa_lead_close. */
+struct lfa_closed {
+    struct lfa_lead lead; /* closed or refused; with 36, 37 and a refusal that comes again as it was */
+    uint64_t refusal;     /* 0, or 30, 31, 32, 33, 36, 37 */
+    size_t place;         /* as in lfa_taken */
+    size_t records;       /* how many records the log has; 0 if refused */
+};
+
 /* A component, or none. */
 struct lfa_found {
     uint64_t found;     /* 1, or 0 where there is none */
@@ -441,6 +495,7 @@ struct lfa_abi {
 LFA_SIZE(lfa_record, 2024);
 LFA_SIZE(lfa_event, 88);
 LFA_SIZE(lfa_answer, 80);
+LFA_SIZE(lfa_lead, 96);
 
 /* ---- Functions ---- */
 
@@ -492,6 +547,32 @@ LFA_CALL struct lfa_written lfa_log(uint8_t *buf, size_t buf_length, struct lfa_
 
 /* Reads the log record at the start of log, whatever follows it: 30 where there are under 51 bytes, then 32, then 31. */
 LFA_CALL struct lfa_read lfa_read_record(const uint8_t *log, size_t log_length);
+
+/* A reader of deliveries before the first: open, no records given, nothing kept. */
+LFA_CALL struct lfa_lead lfa_lead_open(void);
+
+/*
+ * Takes a delivery, whatever part of the log it is: all of it where it ends before the next record does, else up to the end of that
+ * record, which is given. The rest is a delivery again; an empty one changes nothing. So a host has all records of some bytes by
+ *
+ *     while (length != 0) {
+ *         struct lfa_taken t = lfa_lead_take(lead, bytes, length);
+ *         lead = t.lead, bytes += t.used, length -= t.used;
+ *         if (t.refusal != LFA_REFUSAL_NONE) break;
+ *         if (t.given) ..
+ *     }
+ *
+ * A record is refused when its last byte is there: 32, then 31, with its place. 33 comes with the first byte past 1,024 records. The
+ * reader in the answer is then refused and keeps no bytes; it gives that refusal, with its place, to whatever comes. 36 where the
+ * reader is closed, also for an empty delivery. With 36, 37 and a refusal that comes again, the reader in the answer is as it was.
+ */
+LFA_CALL struct lfa_taken lfa_lead_take(struct lfa_lead lead, const uint8_t *delivery, size_t delivery_length);
+
+/*
+ * The log has ended: 30 at the place of the next record where bytes of it are kept, else the reader is closed. A second close after
+ * a good one is 36; all else is as in lfa_lead_take.
+ */
+LFA_CALL struct lfa_closed lfa_lead_close(struct lfa_lead lead);
 
 /*
  * Which component is prepared at a place of a log: after that many of its records. 33 where the bytes are no log or the place

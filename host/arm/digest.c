@@ -1,6 +1,7 @@
 /*
- * A million seeded events on boards of all sizes, with damaged records, boards and logs among them, as one running number of every
- * answer, record, table and byte that the library gives. It is the same on every machine; the counts say what went into it.
+ * A million seeded events on boards of all sizes, with damaged records, boards, logs and readers among them, as one running number of
+ * every answer, record, table, reader and byte that the library gives. It is the same on every machine; the counts say what went into
+ * it.
  */
 #include <inttypes.h>
 #include <stdio.h>
@@ -8,7 +9,8 @@
 
 #include "events.h"
 
-enum { EVENTS = 1000000 };
+/* The events, and how many boards more go on until their log ends, which then comes in deliveries. */
+enum { EVENTS = 1000000, DELIVERED = 200 };
 
 /* ---- The running number ---- */
 
@@ -42,13 +44,17 @@ static void take_record(const struct lfa_record *r)
     take_bytes(r->pending, sizeof *r - offsetof(struct lfa_record, pending));
 }
 
+/* All of a reader's bytes but the padding, which is behind them. */
+enum { LEAD_BYTES = offsetof(struct lfa_lead, kept) + LFA_MOST_KEPT };
+
 /* ---- What was met ---- */
 
-enum { REFUSALS = LFA_REFUSAL_DEPARTS + 1 };
+enum { REFUSALS = LFA_REFUSAL_NO_READER + 1 };
 
 static uint64_t states[LFA_STATE_WITHDRAWN + 1], callers[LFA_CALLER_GONE + 1], releases[LFA_RELEASE_BY_ENTRY + 1];
 static uint64_t refused_events[REFUSALS], refused_boards[REFUSALS], refused_logs[REFUSALS], refused_starts[REFUSALS];
 static uint64_t refused_reasons[REFUSALS], reasons[LFA_REASON_WITHDRAWN + 1];
+static uint64_t refused_deliveries[REFUSALS], refused_closes[REFUSALS], standings[LFA_STANDING_REFUSED + 1];
 static uint64_t prepared_places, started_places, held_places;
 
 #define COUNT(list, at) count(list, sizeof(list) / sizeof *(list), at)
@@ -249,6 +255,73 @@ static void ask_damaged(void)
     walked.log[at] = kept;
 }
 
+/* ---- Deliveries ---- */
+
+static struct lfa_taken deliver(struct lfa_lead lead, const uint8_t *bytes, size_t length)
+{
+    struct lfa_taken t = lfa_lead_take(lead, length ? bytes : NULL, length);
+    take_bytes(&t.lead, LEAD_BYTES);
+    take_bytes(&t.refusal, sizeof t - offsetof(struct lfa_taken, refusal));
+    COUNT(refused_deliveries, t.refusal);
+    return t;
+}
+
+static struct lfa_lead end(struct lfa_lead lead)
+{
+    struct lfa_closed c = lfa_lead_close(lead);
+    take_bytes(&c.lead, LEAD_BYTES);
+    take_bytes(&c.refusal, sizeof c - offsetof(struct lfa_closed, refusal));
+    COUNT(refused_closes, c.refusal);
+    return c.lead;
+}
+
+/* The same delivery to a reader of which a byte or one of the five numbers before them is another, and its end. */
+static void deliver_damaged(struct lfa_lead lead, const uint8_t *bytes, size_t length)
+{
+    static const uint64_t NUMBERS[] = {
+        0, 1, 2, 3, 29, 30, 31, 32, 33, 34, LFA_MOST_KEPT, LFA_MOST_KEPT + 1, LFA_MOST_LOG_RECORDS - 1, LFA_MOST_LOG_RECORDS,
+        LFA_MOST_LOG_RECORDS + 1, UINT64_C(1) << 32,
+    };
+    uint64_t other = ONE_OF(NUMBERS);
+    size_t field = below(5);
+    if (one_in(4)) damage(lead.kept, sizeof lead.kept);
+    else memcpy((uint8_t *)&lead + field * sizeof other, &other, sizeof other);
+    deliver(lead, bytes, length);
+    end(lead);
+}
+
+/* Bytes in deliveries of any length, to their end or a refusal; then what comes after that. */
+static void deliver_all(const uint8_t *bytes, size_t length)
+{
+    struct lfa_lead lead = lfa_lead_open();
+    for (size_t at = 0; at < length && lead.standing == LFA_STANDING_OPEN;) {
+        size_t most = one_in(4) ? 3 : 4 * LFA_LOG_RECORD_BYTES;
+        size_t some = below(most);
+        if (some > length - at) some = length - at;
+        if (one_in(16)) deliver_damaged(lead, bytes + at, some);
+        struct lfa_taken t = deliver(lead, bytes + at, some);
+        lead = t.lead;
+        at += t.used;
+    }
+    lead = end(lead);
+    COUNT(standings, lead.standing);
+    deliver_damaged(lead, bytes, length);
+    deliver(lead, bytes, below(2));
+    end(lead);
+}
+
+/* The log, and the same cut short or with zeros behind it, now and then with a bit that is another. */
+static void deliver_log(void)
+{
+    static uint8_t log[sizeof walked.log + LFA_LOG_RECORD_BYTES];
+    memcpy(log, walked.log, walked.logged);
+    memset(log + walked.logged, 0, sizeof log - walked.logged);
+    deliver_all(log, walked.logged);
+    size_t length = one_in(2) ? walked.logged + 1 : 1 + below(sizeof log);
+    if (one_in(2)) damage(log, length);
+    deliver_all(log, length);
+}
+
 static void event(void)
 {
     struct lfa_event e = one_in(4) ? any_event(&walked.rec) : onward(&walked.rec);
@@ -279,7 +352,11 @@ int main(void)
 {
     uint64_t boards = 0;
     for (uint64_t done = 0; done < EVENTS; boards++) done += walk(EVENTS - done);
-    printf("%d events on %" PRIu64 " boards\n", EVENTS, boards);
+    for (size_t i = 0; i < DELIVERED; i++) {
+        walk(EVENTS);
+        deliver_log();
+    }
+    printf("%d events on %" PRIu64 " boards, and the logs of %d more in deliveries\n", EVENTS, boards, DELIVERED);
     PRINT(states);
     PRINT(callers);
     PRINT(releases);
@@ -289,6 +366,9 @@ int main(void)
     PRINT(refused_starts);
     PRINT(refused_reasons);
     PRINT(reasons);
+    PRINT(refused_deliveries);
+    PRINT(refused_closes);
+    PRINT(standings);
     printf("places where a component is prepared: %" PRIu64 ", where one starts: %" PRIu64 ", where CPUs are held: %" PRIu64 "\n",
            prepared_places, started_places, held_places);
     printf("the running number is %" PRIx64 "\n", number);

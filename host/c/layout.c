@@ -1,6 +1,6 @@
 /*
  * The layout of every struct of lfa.h, as the library has it on a 64-bit host: whether it agrees is found out by compiling (the
- * sizes of record, event and answer stand in lfa.h itself). What the library says of itself is compared when it runs.
+ * sizes of record, event, answer and lead stand in lfa.h itself). What the library says of itself is compared when it runs.
  */
 #include <inttypes.h>
 #include <stddef.h>
@@ -134,6 +134,27 @@ LFA_SIZE(lfa_read, 96);
 PLACE(lfa_read, refusal, 0);
 PLACE(lfa_read, bytes, 8);
 PLACE(lfa_read, record, 16);
+
+PLACE(lfa_lead, standing, 0);
+PLACE(lfa_lead, refusal, 8);
+PLACE(lfa_lead, place, 16);
+PLACE(lfa_lead, records, 24);
+PLACE(lfa_lead, length, 32);
+PLACE(lfa_lead, kept, 40);
+
+LFA_SIZE(lfa_taken, 208);
+PLACE(lfa_taken, lead, 0);
+PLACE(lfa_taken, refusal, 96);
+PLACE(lfa_taken, place, 104);
+PLACE(lfa_taken, used, 112);
+PLACE(lfa_taken, given, 120);
+PLACE(lfa_taken, record, 128);
+
+LFA_SIZE(lfa_closed, 120);
+PLACE(lfa_closed, lead, 0);
+PLACE(lfa_closed, refusal, 96);
+PLACE(lfa_closed, place, 104);
+PLACE(lfa_closed, records, 112);
 
 LFA_SIZE(lfa_abi, 32);
 PLACE(lfa_abi, number, 0);

@@ -1,8 +1,8 @@
 /*
  * Every number of lfa.h, as the library has it. A run of a board with 64 CPUs and 32 components through the monitor of monitor.c,
  * with every function, code, flag and state, each refusal of an event, and CPU 63; then the CPUs that the log tells, each reason,
- * each other refusal, and the limits. What comes from the library is printed in the header's words, and numbers.stdout has the
- * words that documents 01 and 02 give for it.
+ * each other refusal, the limits, and a reader of deliveries. What comes from the library is printed in the header's words, and
+ * numbers.stdout has the words that documents 01 and 02 give for it.
  */
 #include <inttypes.h>
 #include <stdio.h>
@@ -204,6 +204,61 @@ static void long_logs(void)
     line("a log of a record more", lfa_prepared(log, sizeof log, 0).refusal);
 }
 
+static struct lfa_lead deliver(const char *what, struct lfa_lead lead, const uint8_t *delivery, size_t length)
+{
+    struct lfa_taken t = lfa_lead_take(lead, delivery, length);
+    printf("%s:", what);
+    print_refusal(t.refusal);
+    printf(" place %zu, used %zu, %s;", t.place, t.used, t.given ? "a record" : "no record");
+    print_lead(&t.lead);
+    return t.lead;
+}
+
+static struct lfa_lead close_lead(const char *what, struct lfa_lead lead)
+{
+    struct lfa_closed c = lfa_lead_close(lead);
+    printf("%s:", what);
+    print_refusal(c.refusal);
+    printf(" place %zu, records %zu;", c.place, c.records);
+    print_lead(&c.lead);
+    return c.lead;
+}
+
+/* A reader after some good records. */
+static struct lfa_lead after(const uint8_t *record, size_t count)
+{
+    struct lfa_lead lead = lfa_lead_open();
+    for (size_t i = 0; i < count; i++) lead = lfa_lead_take(lead, record, LFA_LOG_RECORD_BYTES).lead;
+    return lead;
+}
+
+/* A record and a byte in deliveries, each refusal of a reader, and its limits. */
+static void deliveries(void)
+{
+    uint8_t record[LFA_LOG_RECORD_BYTES + 1] = {0};
+    struct lfa_event image = IMAGE(0, 5);
+    struct lfa_answer none = {.refusal = LFA_REFUSAL_NONE};
+    lfa_log(record, sizeof record, image, none);
+    struct lfa_lead lead = deliver("nothing to a new reader", lfa_lead_open(), record, 0);
+    lead = deliver("all but a byte of a record", lead, record, LFA_MOST_KEPT);
+    lead = deliver("that byte and one more", lead, record + LFA_MOST_KEPT, 2);
+    lead = deliver("the one more", lead, record + LFA_LOG_RECORD_BYTES, 1);
+    lead = close_lead("closed there", lead);
+    deliver("a record then", lead, record, LFA_LOG_RECORD_BYTES);
+    lead = close_lead("closed after the most records", after(record, LFA_MOST_LOG_RECORDS));
+    deliver("nothing then", lead, record, 0);
+    close_lead("closed again", lead);
+    lead = deliver("a byte past the most records", after(record, LFA_MOST_LOG_RECORDS), record, 1);
+    close_lead("closed there", lead);
+    lead = after(record, 2);
+    record[LFA_LOG_RECORD_BYTES - 1] = 1;
+    deliver("word 6 of an image", lead, record, LFA_LOG_RECORD_BYTES);
+    record[0] = 0;
+    deliver("no kind", lead, record, LFA_LOG_RECORD_BYTES);
+    lead.length = LFA_MOST_KEPT + 1;
+    deliver("a byte too many kept", lead, record, 0);
+}
+
 static void ask_why(const struct monitor *m, size_t place, struct lfa_activate a)
 {
     struct lfa_why w = lfa_why(m->board, m->board_length, m->log, m->logged, place, a);
@@ -256,5 +311,6 @@ int main(void)
     boards(&m);
     log_records();
     long_logs();
+    deliveries();
     return all_stood() ? 0 : 1;
 }

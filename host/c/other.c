@@ -67,3 +67,19 @@ struct lfa_why lfa_why(const uint8_t *board, size_t board_length, const uint8_t 
     (void)board, (void)board_length, (void)log, (void)log_length, (void)place, (void)a;
     return (struct lfa_why){.refusal = LFA_REFUSAL_NONE};
 }
+
+struct lfa_lead lfa_lead_open(void)
+{
+    return (struct lfa_lead){.standing = LFA_STANDING_OPEN};
+}
+
+struct lfa_taken lfa_lead_take(struct lfa_lead lead, const uint8_t *delivery, size_t delivery_length)
+{
+    (void)delivery, (void)delivery_length;
+    return (struct lfa_taken){.lead = lead};
+}
+
+struct lfa_closed lfa_lead_close(struct lfa_lead lead)
+{
+    return (struct lfa_closed){.lead = lead};
+}

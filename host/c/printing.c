@@ -60,6 +60,14 @@ static const char *const REFUSALS[] = {
     [LFA_REFUSAL_LOG] = "no log, or no place of it",
     [LFA_REFUSAL_NO_ROOM] = "no room for a record",
     [LFA_REFUSAL_DEPARTS] = "the rules say otherwise",
+    [LFA_REFUSAL_CLOSED] = "already closed",
+    [LFA_REFUSAL_NO_READER] = "no reader",
+};
+
+static const char *const STANDINGS[] = {
+    [LFA_STANDING_OPEN] = "open",
+    [LFA_STANDING_CLOSED] = "closed",
+    [LFA_STANDING_REFUSED] = "refused",
 };
 
 static const char *const REASONS[] = {
@@ -153,6 +161,13 @@ void print_cpus_at(const struct lfa_cpus_at *t)
     }
     printf(" CPUs");
     print_cpus(t->cpus);
+}
+
+void print_lead(const struct lfa_lead *l)
+{
+    printf(" %s", WORD(STANDINGS, l->standing));
+    if (l->refusal != LFA_REFUSAL_NONE) printf(" with %" PRIu64 " at %zu", l->refusal, l->place);
+    printf(", records %zu, bytes kept %zu\n", l->records, l->length);
 }
 
 void print_record(const struct lfa_log_record *r)

@@ -16,6 +16,9 @@ void print_why(const struct lfa_why *w);
 /* Prints a set of CPUs that the log tells, after a refusal with its place. */
 void print_cpus_at(const struct lfa_cpus_at *t);
 
+/* Prints where a reader of deliveries stands, how many records it gave, and how many bytes it keeps. */
+void print_lead(const struct lfa_lead *l);
+
 /* Prints one record of the log. */
 void print_record(const struct lfa_log_record *r);
 

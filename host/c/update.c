@@ -1,6 +1,6 @@
 /*
- * The update of two CPUs through the monitor of monitor.c, with a platform that prints. Then the log read back, two questions to
- * it, and what happens where a log ends: all who wait are still let go.
+ * The update of two CPUs through the monitor of monitor.c, with a platform that prints. Then the log read back, at once and as a lead
+ * delivers it, two questions to it, and what happens where a log ends: all who wait are still let go.
  */
 #include <inttypes.h>
 #include <stdio.h>
@@ -97,6 +97,41 @@ static int read_back(const struct monitor *m)
     return 1;
 }
 
+/* All records of a delivery; the reader to go on with. */
+static struct lfa_lead take(struct lfa_lead lead, const uint8_t *bytes, size_t length)
+{
+    while (length != 0) {
+        struct lfa_taken t = lfa_lead_take(lead, bytes, length);
+        if (t.given) {
+            printf("record %zu: ", lead.records);
+            print_record(&t.record);
+        }
+        lead = t.lead;
+        bytes += t.used;
+        length -= t.used;
+        if (t.refusal != LFA_REFUSAL_NONE) break;
+    }
+    return lead;
+}
+
+/* The log in deliveries; 1 where all of it reads. */
+static int read_delivered(const struct monitor *m)
+{
+    static const size_t DELIVERIES[] = {1, 0, 50, 51, 52, 153, 101};
+    struct lfa_lead lead = lfa_lead_open();
+    size_t at = 0;
+    for (size_t i = 0; i < sizeof DELIVERIES / sizeof *DELIVERIES; i++) {
+        lead = take(lead, m->log + at, DELIVERIES[i]);
+        printf("delivered %zu:", DELIVERIES[i]);
+        print_lead(&lead);
+        at += DELIVERIES[i];
+    }
+    struct lfa_closed c = lfa_lead_close(lead);
+    printf("the end:");
+    print_lead(&c.lead);
+    return at == m->logged && c.refusal == LFA_REFUSAL_NONE;
+}
+
 /* From the log alone: what is prepared before the last CPU arrives, and what its call starts; 1 where both say the updated one. */
 static int ask(const struct monitor *m)
 {
@@ -123,7 +158,7 @@ int main(void)
     if (monitor_start(&m, &BOARD) != LFA_REFUSAL_NONE) return 1;
     printf("board: a description of %zu bytes\n", m.board_length);
     TELL_ALL(&m, UPDATE);
-    int answered = read_back(&m) && ask(&m);
+    int answered = read_back(&m) && read_delivered(&m) && ask(&m);
     TELL_ALL(&m, PREPARE);
     fill(&m, 4);
     TELL_ALL(&m, LAST_RENDEZVOUS);

@@ -3,3 +3,4 @@ pub mod Inverse
 pub mod Pinned
 pub mod Sizes
 pub mod Through
+pub mod LeadsBack

@@ -22,6 +22,12 @@ use Rattle.flat.proofs.held.Kinds as held-kinds
 use Rattle.flat.proofs.held.Reads as held-reads
 use Rattle.flat.proofs.why.Kinds as why-kinds
 use Rattle.flat.proofs.why.Reads as why-reads
+use Rattle.flat.proofs.lead_open.Kinds as lead-open-kinds
+use Rattle.flat.proofs.lead_open.Reads as lead-open-reads
+use Rattle.flat.proofs.lead_take.Kinds as lead-take-kinds
+use Rattle.flat.proofs.lead_take.Reads as lead-take-reads
+use Rattle.flat.proofs.lead_close.Kinds as lead-close-kinds
+use Rattle.flat.proofs.lead_close.Reads as lead-close-reads
 
 pub abi-pinned : OneOutcome 0 abi-kinds.ps abi-kinds.r abi-reads.Post
 abi-pinned κs a z z′ ws ws′ p q = just p q
@@ -55,3 +61,12 @@ held-pinned κs a z z′ ws ws′ p q = just p q
 
 pub why-pinned : OneOutcome 2 why-kinds.ps why-kinds.r why-reads.Post
 why-pinned κs a z z′ ws ws′ p q = just p q
+
+pub lead-open-pinned : OneOutcome 0 lead-open-kinds.ps lead-open-kinds.r lead-open-reads.Post
+lead-open-pinned κs a z z′ ws ws′ p q = just p q
+
+pub lead-take-pinned : OneOutcome 1 lead-take-kinds.ps lead-take-kinds.r lead-take-reads.Post
+lead-take-pinned κs a z z′ ws ws′ p q = just p q
+
+pub lead-close-pinned : OneOutcome 0 lead-close-kinds.ps lead-close-kinds.r lead-close-reads.Post
+lead-close-pinned κs a z z′ ws ws′ p q = just p q

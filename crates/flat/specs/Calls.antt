@@ -47,7 +47,7 @@ use Rattle.trace.specs.declared.Read.the-variants.{Known, Unknown}
 -- what a host lends and gets
 -- (crates/flat/proofs/Sizes.antt shows that these are the bytes of the types)
 unfoldable pub abiOf : FlatAbi
-abiOf = record { number = 3; rec = 2024; event = 88; answer = 80 }
+abiOf = record { number = 4; rec = 2024; event = 88; answer = 80 }
 
 -- ---- a board description from its parts: 22 for a flag that is neither 0 nor 1, then as its writer says
 unfoldable pub describedOf : ℕ → FlatBoard → FlatWritten

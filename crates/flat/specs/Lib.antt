@@ -1,3 +1,4 @@
 pub mod Answers
 pub mod Calls
 pub mod Records
+pub mod Leads

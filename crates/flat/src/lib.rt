@@ -1,11 +1,13 @@
 // What crosses to a host: numbers, arrays of numbers, and structs of these. Whatever they hold, each gets a stated answer.
 mod answers;
+mod leads;
 mod reasons;
 mod records;
 
 ghost use mathlib.Core.Path.{_≡_};
 ghost use lib.ListN.{length};
 ghost use Rattle.flat.specs.Calls.{abiOf, describedOf, descriptionOf, readIn, freshIn, noEvent, stepOf, entriesOf, contextsOf, writtenOf, bufferOf, preparedIn, startedIn, poweredIn, heldIn, whyIn};
+ghost use Rattle.flat.specs.Leads.{openedIn, takenIn, closedIn};
 use agent::Freed;
 use board::MOST_COMPONENTS;
 use board::MOST_CPUS;
@@ -13,6 +15,7 @@ use board::UUID_BYTES;
 use board_record::Record;
 use codes::Call;
 use cpuset::CpuSet;
+use deliveries::MOST_KEPT;
 use log_record::LogRecord;
 use reason::Activate;
 use rules::Image;
@@ -21,7 +24,7 @@ use rules::Report;
 use trace::Read;
 
 // The ABI number, which rises with every change of a layout or of what a number means, and the bytes of the structs.
-const ABI: u64 = 3;
+const ABI: u64 = 4;
 
 const RECORD_SIZE: u64 = 2024;
 
@@ -165,6 +168,39 @@ pub struct FlatWhy {
     pub missing: CpuSet,
 }
 
+// A reader of deliveries. Its standing is 0 (open), 1 (closed well) or 2 (refused, with the number and the place of that; both are 0
+// else); then how many records it has given, and the bytes that it keeps, with zeros past them.
+#[repr(C)]
+pub struct FlatLead {
+    pub standing: u64,
+    pub refusal: u64,
+    pub place: usize,
+    pub records: usize,
+    pub length: usize,
+    pub kept: [u8; MOST_KEPT],
+}
+
+// The reader after a delivery, how many bytes of it were used, and a record, where given is 1; or the number of a refusal and the
+// place of the record to blame.
+#[repr(C)]
+pub struct FlatTaken {
+    pub lead: FlatLead,
+    pub refusal: u64,
+    pub place: usize,
+    pub used: usize,
+    pub given: u64,
+    pub rec: LogRecord,
+}
+
+// The reader after closing, and how many records there were; or the number of a refusal and the place of the record to blame.
+#[repr(C)]
+pub struct FlatClosed {
+    pub lead: FlatLead,
+    pub refusal: u64,
+    pub place: usize,
+    pub records: usize,
+}
+
 // Which library this is.
 pub fn abi() -> FlatAbi
     ensures { λ r. ⌜ r ≡ abiOf ⌝ }
@@ -288,4 +324,25 @@ pub fn why(board: &[u8], log: &[u8], place: usize, a: Activate) -> FlatWhy
     ensures { λ r. ⌜ r ≡ whyIn (now (board .entry)) (now (log .entry)) place a ⌝ }
 {
     reasons::explained(reason::explain(board, log, place, a))
+}
+
+// A reader of deliveries to which nothing has come.
+pub fn lead_open() -> FlatLead
+    ensures { λ r. ⌜ r ≡ openedIn ⌝ }
+{
+    leads::flat(deliveries::open())
+}
+
+// Takes a delivery as far as it gives one record.
+pub fn lead_take(f: FlatLead, delivery: &[u8]) -> FlatTaken
+    ensures { λ r. ⌜ r ≡ takenIn f (now (delivery .entry)) ⌝ }
+{
+    leads::taken(f, deliveries::take(leads::lead(f), delivery))
+}
+
+// Tells a reader that the log ends here.
+pub fn lead_close(f: FlatLead) -> FlatClosed
+    ensures { λ r. ⌜ r ≡ closedIn f ⌝ }
+{
+    leads::closed(f, deliveries::close(leads::lead(f)))
 }

@@ -28,6 +28,12 @@ use Rattle.monitor.proofs.lfa_held.Kinds as lfa-held-kinds
 use Rattle.monitor.proofs.lfa_held.Reads as lfa-held-reads
 use Rattle.monitor.proofs.lfa_why.Kinds as lfa-why-kinds
 use Rattle.monitor.proofs.lfa_why.Reads as lfa-why-reads
+use Rattle.monitor.proofs.lfa_lead_open.Kinds as lfa-lead-open-kinds
+use Rattle.monitor.proofs.lfa_lead_open.Reads as lfa-lead-open-reads
+use Rattle.monitor.proofs.lfa_lead_take.Kinds as lfa-lead-take-kinds
+use Rattle.monitor.proofs.lfa_lead_take.Reads as lfa-lead-take-reads
+use Rattle.monitor.proofs.lfa_lead_close.Kinds as lfa-lead-close-kinds
+use Rattle.monitor.proofs.lfa_lead_close.Reads as lfa-lead-close-reads
 
 pub lfa-abi-pinned : OneOutcome 0 lfa-abi-kinds.ps lfa-abi-kinds.r lfa-abi-reads.Post
 lfa-abi-pinned κs a z z′ ws ws′ p q = just p q
@@ -58,6 +64,15 @@ lfa-held-pinned κs a z z′ ws ws′ p q = just p q
 
 pub lfa-why-pinned : OneOutcome 2 lfa-why-kinds.ps lfa-why-kinds.r lfa-why-reads.Post
 lfa-why-pinned κs a z z′ ws ws′ p q = just p q
+
+pub lfa-lead-open-pinned : OneOutcome 0 lfa-lead-open-kinds.ps lfa-lead-open-kinds.r lfa-lead-open-reads.Post
+lfa-lead-open-pinned κs a z z′ ws ws′ p q = just p q
+
+pub lfa-lead-take-pinned : OneOutcome 1 lfa-lead-take-kinds.ps lfa-lead-take-kinds.r lfa-lead-take-reads.Post
+lfa-lead-take-pinned κs a z z′ ws ws′ p q = just p q
+
+pub lfa-lead-close-pinned : OneOutcome 0 lfa-lead-close-kinds.ps lfa-lead-close-kinds.r lfa-lead-close-reads.Post
+lfa-lead-close-pinned κs a z z′ ws ws′ p q = just p q
 
 pub lfa-step-pinned : {M : Type 1} (𝓤 : URA M) (H : Heap 𝓤) (A : Atoms 𝓤) (mem : Memory → SProp 𝓤) (run : Routine → Fun 𝓤) → OneWalked 𝓤 lfa-step.ended (lfa-step.clauses 𝓤 H A mem run)
 lfa-step-pinned 𝓤 H A mem run κs a g g′ z z′ ws ws′ P =

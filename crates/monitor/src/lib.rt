@@ -2,17 +2,21 @@
 ghost use mathlib.Core.Path.{_≡_};
 ghost use lib.ListN.{length};
 ghost use Rattle.flat.specs.Calls.{abiOf, describedOf, descriptionOf, readIn, freshIn, stepOf, entriesOf, contextsOf, writtenOf, bufferOf, preparedIn, startedIn, poweredIn, heldIn, whyIn};
+ghost use Rattle.flat.specs.Leads.{openedIn, takenIn, closedIn};
 use codes::Call;
 use flat::FlatAbi;
 use flat::FlatAnswer;
 use flat::FlatBoard;
+use flat::FlatClosed;
 use flat::FlatCpus;
 use flat::FlatEvent;
 use flat::FlatFresh;
+use flat::FlatLead;
 use flat::FlatPrepared;
 use flat::FlatRead;
 use flat::FlatRecord;
 use flat::FlatStarted;
+use flat::FlatTaken;
 use flat::FlatWhy;
 use flat::FlatWritten;
 use reason::Activate;
@@ -115,4 +119,28 @@ pub extern "C" fn lfa_why(board: &[u8], log: &[u8], place: usize, a: Activate) -
     ensures { λ r. ⌜ r ≡ whyIn (now (board .entry)) (now (log .entry)) place a ⌝ }
 {
     flat::why(board, log, place, a)
+}
+
+// A reader of deliveries to which nothing has come.
+#[no_mangle]
+pub extern "C" fn lfa_lead_open() -> FlatLead
+    ensures { λ r. ⌜ r ≡ openedIn ⌝ }
+{
+    flat::lead_open()
+}
+
+// Takes a delivery as far as it gives one record.
+#[no_mangle]
+pub extern "C" fn lfa_lead_take(lead: FlatLead, delivery: &[u8]) -> FlatTaken
+    ensures { λ r. ⌜ r ≡ takenIn lead (now (delivery .entry)) ⌝ }
+{
+    flat::lead_take(lead, delivery)
+}
+
+// Tells a reader that the log ends here.
+#[no_mangle]
+pub extern "C" fn lfa_lead_close(lead: FlatLead) -> FlatClosed
+    ensures { λ r. ⌜ r ≡ closedIn lead ⌝ }
+{
+    flat::lead_close(lead)
 }

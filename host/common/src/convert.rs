@@ -27,6 +27,19 @@ pub fn refusal_of<T>(result: &Result<T, Refusal>) -> u64 {
     }
 }
 
+/// The number of the refusal and its place, or 0 and 0.
+fn flaw_numbers<T>(result: &Result<T, Flaw>) -> (u64, usize) {
+    match result {
+        Ok(_) => (0, 0),
+        Err(flaw) => (flaw.refusal.number(), flaw.place),
+    }
+}
+
+/// The number of the refusal, or 0, where it has a place.
+pub fn flaw_refusal<T>(result: &Result<T, Flaw>) -> u64 {
+    flaw_numbers(result).0
+}
+
 /// How many states there are; their numbers are below it.
 pub const STATES: usize = 10;
 
@@ -502,5 +515,50 @@ pub fn flat_why(why: Result<Reason, Flaw>) -> flat::Why {
             place: flaw.place,
             ..flat::Why::default()
         },
+    }
+}
+
+pub fn flat_lead(lead: &Stored) -> flat::Lead {
+    flat::Lead {
+        standing: lead.standing,
+        refusal: lead.refusal,
+        place: lead.place,
+        records: lead.records,
+        length: lead.length,
+        kept: lead.kept,
+    }
+}
+
+pub fn peer_lead(lead: &flat::Lead) -> Stored {
+    Stored {
+        standing: lead.standing,
+        refusal: lead.refusal,
+        place: lead.place,
+        records: lead.records,
+        length: lead.length,
+        kept: lead.kept,
+    }
+}
+
+pub fn flat_taken((lead, took): &(Stored, Result<Took, Flaw>)) -> flat::Taken {
+    let (refusal, place) = flaw_numbers(took);
+    let record = took.ok().and_then(|took| took.record);
+    flat::Taken {
+        lead: flat_lead(lead),
+        refusal,
+        place,
+        used: took.map_or(0, |took| took.used),
+        given: record.is_some().into(),
+        record: record.map_or(flat::LogRecord::default(), |it| flat_log_record(&it)),
+    }
+}
+
+pub fn flat_closed((lead, closed): &(Stored, Result<usize, Flaw>)) -> flat::Closed {
+    let (refusal, place) = flaw_numbers(closed);
+    flat::Closed {
+        lead: flat_lead(lead),
+        refusal,
+        place,
+        records: closed.unwrap_or(0),
     }
 }

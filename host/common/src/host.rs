@@ -6,10 +6,13 @@
 use crate::boards::{described, usual, OPTIONAL, PLAIN, SVN};
 use crate::convert::*;
 use crate::events::*;
-use crate::pair::{self, ask_cpus, ask_prepared, ask_starts, ask_why, read_board, same, write};
+use crate::pair::{
+    self, ask_cpus, ask_prepared, ask_starts, ask_why, lead_close, lead_take, read_board, same,
+    write,
+};
 use lfa::{
-    code, flat, Activate, Answer, Board, Call, Caller, Cpus, Event, Flaw, LogRecord, Prepared,
-    Reason, Record, Refusal, Registers, Release, RECORD_BYTES,
+    code, flat, Activate, Answer, Board, Call, Caller, Cpus, Event, Flaw, Lead, LogRecord,
+    Prepared, Reason, Record, Refusal, Registers, Release, Taken, RECORD_BYTES,
 };
 
 /// What the tables hold where nothing was written.
@@ -64,6 +67,18 @@ pub fn starts_at(board: &[u8], log: &[u8], place: usize, call: &Call) -> Result<
 pub fn why_at(board: &[u8], log: &[u8], place: usize, ask: &Activate) -> Result<Reason, Flaw> {
     let _ = ask_why(&"a log", board, log, place, &peer_activate(ask));
     lfa::why_at(board, log, place, ask)
+}
+
+/// Takes a delivery, on both sides.
+pub fn take(lead: Lead, delivery: &[u8]) -> Taken<'_> {
+    let _ = lead_take(&"a delivery", &peer_lead(lead.as_flat()), delivery);
+    lead.take(delivery)
+}
+
+/// Closes a reader of deliveries, on both sides.
+pub fn close(lead: Lead) -> (Lead, Result<usize, Flaw>) {
+    let _ = lead_close(&"a close", &peer_lead(lead.as_flat()));
+    lead.close()
 }
 
 /// Writes the log record of an event and its answer, on both sides.

@@ -247,6 +247,41 @@ pub fn read_record(at: &impl Display, bytes: &[u8]) -> Result<LogRecord, Refusal
     expected
 }
 
+/// A reader of deliveries before the first, on both sides.
+pub fn lead_open(at: &impl Display) -> Stored {
+    let expected = Lead::new().stored();
+    same(at, "a reader", &flat::lead_open(), &flat_lead(&expected));
+    expected
+}
+
+/// One delivery on both sides. The reader to go on with, and what came of it.
+pub fn lead_take(
+    at: &impl Display,
+    lead: &Stored,
+    delivery: &[u8],
+) -> (Stored, Result<Took, Flaw>) {
+    let expected = lead.take(delivery);
+    same(
+        at,
+        "delivery",
+        &(lead, delivery, flat::lead_take(flat_lead(lead), delivery)),
+        &(lead, delivery, flat_taken(&expected)),
+    );
+    expected
+}
+
+/// The same for closing.
+pub fn lead_close(at: &impl Display, lead: &Stored) -> (Stored, Result<usize, Flaw>) {
+    let expected = lead.close();
+    same(
+        at,
+        "close",
+        &(lead, flat::lead_close(flat_lead(lead))),
+        &(lead, flat_closed(&expected)),
+    );
+    expected
+}
+
 /// The same with any room; the bytes after it stay. The written bytes, if any.
 pub fn log(
     dice: &mut Dice,

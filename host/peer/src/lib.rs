@@ -4,7 +4,8 @@
 //! [`Record::step`] takes one event. [`logged`] makes the log record of an
 //! accepted one. [`prepared_at`], [`starts_at`], [`powered_at`] and [`held_at`]
 //! answer questions from a log alone. [`why_at`] takes a log's events through
-//! the rules, and names the rule that an ACTIVATE meets there.
+//! the rules, and names the rule that an ACTIVATE meets there. [`Lead`] reads a
+//! log that comes in deliveries, and [`Stored`] is what a host keeps of it.
 //!
 //! # Open points
 //!
@@ -85,6 +86,22 @@
 //! - Idle and dead are reasons by themselves, whatever is pending and whatever
 //!   led there.
 //!
+//! Logs in deliveries (request 4):
+//! - A delivery may end several records: each call gives one, and the caller
+//!   comes back with the rest.
+//! - A record is refused when its last byte is there, whatever the first ones
+//!   say, and 33 comes before the byte past the last record is looked at. Of a
+//!   refused delivery nothing is used, and no byte is kept after it.
+//! - An empty delivery is none to an open reader, also one with a full log. Else
+//!   it is refused as any other.
+//! - 33, 36 and 37 have place 0; a refusal that comes again has its own.
+//! - Closing after a refusal gives that refusal too.
+//! - Bytes left over are refused with 30 whatever they say.
+//! - A log without a byte is one of no records: it closes well.
+//! - "Past these limits" is any state that no deliveries lead to ([`Fault`]), but
+//!   for what the kept bytes say, and not only over 50 bytes or over 1,024 records.
+//! - A state that is refused with 36, 37 or again stays as it was.
+//!
 //! Of logs that no agent writes, three points follow the project's own choices
 //! (docs/DECISIONS.md), so that on them the comparison with the library is no
 //! independent evidence: what becomes of a caller goes by the outcome alone;
@@ -93,13 +110,15 @@
 //! [`why_at`] that follow these choices too: place 0 where no record is to
 //! blame, and the component of [`Reason::OtherComponent`]. The list of reasons
 //! and the order of its refusals are one wording of request 1 on both sides, and
-//! so are the reason of withdrawn and what [`powered_at`] and [`held_at`] refuse:
-//! that they agree shows no slip, and not that the requests were read right.
+//! so are the reason of withdrawn and what [`powered_at`] and [`held_at`] refuse,
+//! and the list of faults, the used bytes and the places of request 4: that they
+//! agree shows no slip, and not that the requests were read right.
 
 mod answer;
 mod board;
 mod cpus;
 mod event;
+mod lead;
 mod log;
 mod reader;
 mod record;
@@ -111,6 +130,7 @@ pub use answer::{status, Answer, Caller, Release};
 pub use board::{Board, Component, MAX_COMPONENTS, MAX_CPUS};
 pub use cpus::CpuSet;
 pub use event::{Call, Event, Function, Image, Report};
+pub use lead::{Fault, Lead, Stored, Took, CLOSED, MAX_KEPT, OPEN, REFUSED};
 pub use log::{
     logged, prepared_at, Flaw, Log, LogRecord, Prepared, ACTIVATE, ACTIVATION_STARTED, CALL, GONE,
     HELD, IMAGE, MAX_RECORDS, NOTED, PRIME, PRIME_STARTED, RECORD_BYTES, RELEASED, RETURNED,

@@ -51,6 +51,10 @@ pub enum Refusal {
     NoRoomForRecord = 34,
     /// The event of a log record is refused by the rules, or answered otherwise.
     Differs = 35,
+    /// A delivery or a close comes to a reader whose log ended well.
+    AlreadyClosed = 36,
+    /// The numbers of a reader of deliveries are those of none.
+    NoReader = 37,
 }
 
 impl Refusal {

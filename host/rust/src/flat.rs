@@ -10,6 +10,8 @@ use core::sync::atomic::{AtomicBool, Ordering};
 pub const MOST_COMPONENTS: usize = 32;
 /// CPUs that a board has at most.
 pub const MOST_CPUS: usize = 64;
+/// Bytes that a reader keeps between two deliveries at most.
+pub const MOST_KEPT: usize = 50;
 
 /// Which library it is: a host that was built for another must not call it. This struct is the same for all of them.
 #[repr(C)]
@@ -28,7 +30,7 @@ pub struct Abi {
 impl Abi {
     /// The library that this wrapper is for.
     pub const OWN: Abi = Abi {
-        number: 3,
+        number: 4,
         record: size_of::<Record>() as u64,
         event: size_of::<Event>() as u64,
         answer: size_of::<Answer>() as u64,
@@ -342,10 +344,60 @@ pub struct Why {
     pub missing: Cpus,
 }
 
+/// A reader of a log that arrives in deliveries, between two of them.
+#[repr(C)]
+#[derive(Clone, Copy, Debug, PartialEq, Eq)]
+pub struct Lead {
+    /// 0 open, 1 closed, 2 refused.
+    pub standing: u64,
+    /// The number of the refusal where it is refused, else 0.
+    pub refusal: u64,
+    /// The place of the record to blame; 0 where it is the log, and where it is not refused.
+    pub place: usize,
+    /// How many records were given.
+    pub records: usize,
+    /// How many bytes are kept.
+    pub length: usize,
+    /// The first bytes of the next record, and zeros past their length.
+    pub kept: [u8; MOST_KEPT],
+}
+
+/// The answer of [`lead_take`].
+#[repr(C)]
+#[derive(Clone, Copy, Debug, PartialEq, Eq)]
+pub struct Taken {
+    /// The reader to go on with.
+    pub lead: Lead,
+    /// 0 or the number of the refusal.
+    pub refusal: u64,
+    /// If refused, the place of the record to blame, or 0 where it is the log or the reader.
+    pub place: usize,
+    /// How many bytes of the delivery were used; 0 if refused.
+    pub used: usize,
+    /// 1, or 0 where no record is given.
+    pub given: u64,
+    /// The record; all 0 where none is given.
+    pub record: LogRecord,
+}
+
+/// The answer of [`lead_close`].
+#[repr(C)]
+#[derive(Clone, Copy, Debug, PartialEq, Eq)]
+pub struct Closed {
+    /// The reader, closed or refused.
+    pub lead: Lead,
+    /// 0 or the number of the refusal.
+    pub refusal: u64,
+    /// If refused, the place of the record to blame, or 0 where it is the log or the reader.
+    pub place: usize,
+    /// How many records the log has; 0 if refused.
+    pub records: usize,
+}
+
 mod linked {
     use super::{
-        Abi, Activate, Answer, Board, Call, CpusAt, Event, Fresh, Prepared, Read, Record, Started,
-        Why, Written,
+        Abi, Activate, Answer, Board, Call, Closed, CpusAt, Event, Fresh, Lead, Prepared, Read,
+        Record, Started, Taken, Why, Written,
     };
 
     // The library's convention: on x86-64 that of System V, also where C has another.
@@ -390,6 +442,9 @@ mod linked {
             place: usize,
             a: Activate,
         ) -> Why;
+        pub fn lfa_lead_open() -> Lead;
+        pub fn lfa_lead_take(lead: Lead, delivery: *const u8, delivery_length: usize) -> Taken;
+        pub fn lfa_lead_close(lead: Lead) -> Closed;
     }
 }
 
@@ -511,4 +566,30 @@ pub fn why(board: &[u8], log: &[u8], place: usize, a: Activate) -> Why {
             a,
         )
     }
+}
+
+/// A reader of deliveries before the first.
+pub fn lead_open() -> Lead {
+    ensure_own_library();
+    // SAFETY: it takes nothing.
+    unsafe { linked::lfa_lead_open() }
+}
+
+/// Takes a delivery up to the end of a record, or all of it.
+///
+/// Refused with 37 for a reader that is none, then 36 for one that is closed or again with what it was refused with before, then
+/// 33 for a byte past 1,024 records, 32 or 31 for a record.
+pub fn lead_take(lead: Lead, delivery: &[u8]) -> Taken {
+    ensure_own_library();
+    // SAFETY: the slice is valid for its length, and the function only reads it.
+    unsafe { linked::lfa_lead_take(lead, delivery.as_ptr(), delivery.len()) }
+}
+
+/// The log has ended.
+///
+/// Refused with 37, 36 or again as by [`lead_take`], and with 30 where bytes are kept.
+pub fn lead_close(lead: Lead) -> Closed {
+    ensure_own_library();
+    // SAFETY: it takes numbers alone.
+    unsafe { linked::lfa_lead_close(lead) }
 }

@@ -7,11 +7,14 @@
 //! starts a rendezvous activation ([`starts_at`]), and why an ACTIVATE is refused, held or started ([`why_at`]). A [`Refusal`]
 //! changes nothing.
 //!
+//! A log that arrives in deliveries goes through a [`Lead`], which gives each record when its last byte is there. With the
+//! feature `std`, which is on unless it is switched off, `Records` is the iterator over whatever `std::io::Read` has.
+//!
 //! A CANCEL that returns 0 while a prime job runs does not end the job: its report still has to come, and only that lets the
 //! CPU go that waits for it ([`State::Withdrawn`]).
 //!
 //! No board, event or log makes a function here panic. A linked library that this wrapper is not for does: one that says so,
-//! before anything crosses to it, and one whose answer, state or reason has a number that this wrapper does not know.
+//! before anything crosses to it, and one whose answer, state, reason or standing has a number that this wrapper does not know.
 //!
 //! Of what the library asks of a host (`lfa.h`), the types see to pointers, lengths and one call at a time for a record. The
 //! rest is for the host: a stack as deep as `LFA_STACK_` says, and on x86-64 one on which no interrupt is taken, since the red
@@ -46,23 +49,32 @@
 #![deny(unsafe_code)]
 #![warn(missing_docs)]
 
+#[cfg(feature = "std")]
+extern crate std;
+
 mod answer;
 mod cpus;
 mod event;
 #[allow(unsafe_code)]
 pub mod flat;
+mod lead;
 mod log;
 mod record;
+#[cfg(feature = "std")]
+mod records;
 mod refusal;
 mod why;
 
 pub use answer::{status, Answer, Caller, Registers, Release};
 pub use event::{code, function, Call, Event, Image, Report};
-pub use flat::{Board, Component, Cpus, Freed, LogRecord, MOST_COMPONENTS, MOST_CPUS};
+pub use flat::{Board, Component, Cpus, Freed, LogRecord, MOST_COMPONENTS, MOST_CPUS, MOST_KEPT};
+pub use lead::{Lead, Standing, Taken};
 pub use log::{
     held_at, powered_at, prepared_at, read_record, starts_at, write_log, Flaw, Prepared,
     MOST_RECORDS, RECORD_BYTES,
 };
 pub use record::{describe, Record, State};
+#[cfg(feature = "std")]
+pub use records::{Error, Records};
 pub use refusal::Refusal;
 pub use why::{why_at, Activate, Reason};

@@ -13,12 +13,12 @@ pub const RECORD_BYTES: usize = 51;
 /// Records that a log has at most.
 pub const MOST_RECORDS: usize = 1024;
 
-/// Why a question is refused.
+/// Why a question or a delivery is refused.
 #[derive(Clone, Copy, Debug, PartialEq, Eq, Hash)]
 pub struct Flaw {
     /// The refusal.
     pub refusal: Refusal,
-    /// The place of the record to blame, counted from 0; 0 where it is the log, the board or the call.
+    /// The place of the record to blame, counted from 0; 0 where it is the log, the board, the call or the reader.
     pub place: usize,
 }
 

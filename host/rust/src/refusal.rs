@@ -54,6 +54,10 @@ impl Refusal {
     pub const NO_ROOM: Refusal = Refusal(34);
     /// Log: the rules refuse a record's event, or answer it otherwise.
     pub const DEPARTS: Refusal = Refusal(35);
+    /// Lead: a delivery or a second close after a good close.
+    pub const CLOSED: Refusal = Refusal(36);
+    /// Lead: a state that no reader has.
+    pub const NO_READER: Refusal = Refusal(37);
 
     /// Its number.
     pub fn number(self) -> u64 {
@@ -94,6 +98,8 @@ impl Refusal {
             Refusal::LOG => "log: part of a record, over 1,024 of them, or a place past the end",
             Refusal::NO_ROOM => "no room for 51 bytes",
             Refusal::DEPARTS => "log: the rules refuse a record's event, or answer it otherwise",
+            Refusal::CLOSED => "lead: a delivery or a second close after a good close",
+            Refusal::NO_READER => "lead: a state that no reader has",
             _ => "unknown refusal",
         }
     }

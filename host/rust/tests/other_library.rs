@@ -3,7 +3,8 @@
 use std::panic::{catch_unwind, AssertUnwindSafe};
 
 use lfa::flat::{
-    self, Abi, Activate, Answer, Board, Call, Cpus, Event, Record, MOST_COMPONENTS, MOST_CPUS,
+    self, Abi, Activate, Answer, Board, Call, Cpus, Event, Lead, Record, MOST_COMPONENTS,
+    MOST_CPUS, MOST_KEPT,
 };
 
 /// A record of zeros.
@@ -21,6 +22,16 @@ fn zeros() -> Record {
         informed: 0,
     }
 }
+
+/// A reader of zeros.
+const LEAD: Lead = Lead {
+    standing: 0,
+    refusal: 0,
+    place: 0,
+    records: 0,
+    length: 0,
+    kept: [0; MOST_KEPT],
+};
 
 /// Whether it panics with the words for a library that the wrapper is not for.
 fn is_refused<T>(call: impl FnOnce() -> T) -> bool {
@@ -47,6 +58,9 @@ fn no_function_of_another_library_is_called() {
         is_refused(|| flat::held(&[], 0)),
         is_refused(|| flat::starts(&[], &[], 0, Call::default())),
         is_refused(|| flat::why(&[], &[], 0, Activate::default())),
+        is_refused(flat::lead_open),
+        is_refused(|| flat::lead_take(LEAD, &[])),
+        is_refused(|| flat::lead_close(LEAD)),
     ];
-    assert_eq!(refused, [true; 10]);
+    assert_eq!(refused, [true; 13]);
 }

@@ -218,7 +218,7 @@ pub const CLAUSES: [(&str, Breaker); 47] = [
 ];
 
 /// A number above the limit, near or far.
-fn large(dice: &mut Dice, limit: u64) -> u64 {
+pub fn large(dice: &mut Dice, limit: u64) -> u64 {
     match dice.below(4) {
         0 => limit + 1,
         1 => limit + 1 + dice.below(100),
@@ -228,7 +228,7 @@ fn large(dice: &mut Dice, limit: u64) -> u64 {
 }
 
 /// A small or large number other than 0.
-fn nonzero(dice: &mut Dice) -> u64 {
+pub fn nonzero(dice: &mut Dice) -> u64 {
     match dice.below(3) {
         0 => 1 << dice.below(64),
         1 => 1 + dice.below(64),

@@ -8,6 +8,8 @@ mod boards;
 mod clauses;
 mod cpus;
 mod damage;
+mod faults;
+mod lead;
 mod logs;
 mod places;
 mod story;

@@ -7,7 +7,7 @@ use crate::story::{record_of, refused_cpu, Change, Story, CHANGES};
 use crate::tally::{add, each_of, exactly};
 use crate::walks::Walk;
 use common::boards::packed;
-use common::convert::{reason_number, state_number, STATES};
+use common::convert::{flaw_refusal, reason_number, state_number, STATES};
 use common::dice::Dice;
 use common::generate::any_activate;
 use common::pair::{ask_why, same};
@@ -42,14 +42,6 @@ const CALLERS: [&[u64]; STATES] = [
     &[2, 3],
     &[2, 3, 4],
 ];
-
-/// The number of the refusal, or 0.
-fn refusal_of(why: &Result<Reason, Flaw>) -> u64 {
-    match why {
-        Ok(_) => 0,
-        Err(flaw) => flaw.refusal.number(),
-    }
-}
 
 /// Every place of a walk, with calls that mostly get far.
 #[test]
@@ -165,13 +157,13 @@ fn one_record_of_a_full_log_that_differs() {
             dice.next_step();
             let ask = any_activate(&mut dice, &pair.peer);
             let why = ask_why(&dice, &board, &log, place, &ask);
-            assert_eq!(refusal_of(&why) == 35, place > at, "{dice}");
+            assert_eq!(flaw_refusal(&why) == 35, place > at, "{dice}");
         }
     }
 }
 
 /// Makes a record unreadable, so that this number comes.
-fn spoil(dice: &mut Dice, bytes: &mut [u8], number: u64) {
+pub fn spoil(dice: &mut Dice, bytes: &mut [u8], number: u64) {
     match number {
         31 => bytes[2] |= 1 << dice.below(6),
         _ => bytes[0] |= 0xE0,
@@ -354,7 +346,7 @@ fn the_first_refusal_is_given() {
         let why = ask_why(&dice, board, log, question.place, &question.ask);
         let refused = why.err().map(|flaw| (flaw.refusal.number(), flaw.place));
         same(&dice, "the first refusal", &refused, &question.refused);
-        add(&mut counts, (wrong, refusal_of(&why)));
+        add(&mut counts, (wrong, flaw_refusal(&why)));
     }
     let numbers = |wrong| {
         let first = (0..WRONG.len()).find(|&thing| is_wrong(wrong, thing));
@@ -387,7 +379,7 @@ fn whys_of_damaged_boards_and_logs() {
             let place = dice.place(log.len() / RECORD_BYTES + 2);
             let ask = any_activate(&mut dice, story.at(place));
             let why = ask_why(&dice, &board, &log, place, &ask);
-            add(&mut refusals, refusal_of(&why));
+            add(&mut refusals, flaw_refusal(&why));
         }
     }
     let callers_and_boards = [0, 2, 3, 4].into_iter().chain(20..=25);

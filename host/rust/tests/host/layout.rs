@@ -3,14 +3,15 @@
 use core::mem::{align_of, offset_of, size_of};
 
 use lfa::flat::{
-    self, Abi, Activate, Answer, Board, Call, Component, Cpus, CpusAt, Event, Found, Freed, Fresh,
-    Image, LogRecord, Prepared, Read, Record, Registers, Report, Started, Why, Written,
+    self, Abi, Activate, Answer, Board, Call, Closed, Component, Cpus, CpusAt, Event, Found, Freed,
+    Fresh, Image, Lead, LogRecord, Prepared, Read, Record, Registers, Report, Started, Taken, Why,
+    Written,
 };
 
 #[test]
 fn the_library_is_the_one_that_the_wrapper_is_for() {
     let own = Abi {
-        number: 3,
+        number: 4,
         record: 2024,
         event: 88,
         answer: 80,
@@ -34,7 +35,7 @@ fn other_numbers_are_another_library() {
         |abi| &mut abi.answer,
     ];
     for change in changes {
-        for other in [0, 2, 4, 81, 89, 2025, u64::MAX] {
+        for other in [0, 3, 5, 81, 89, 2025, u64::MAX] {
             let mut abi = Abi::OWN;
             *change(&mut abi) = other;
             let said = said_of(abi).expect("a message");
@@ -71,6 +72,9 @@ fn sizes() {
     assert_eq!(size_of::<Abi>(), 32);
     assert_eq!(size_of::<LogRecord>(), 80);
     assert_eq!(size_of::<Read>(), 96);
+    assert_eq!(size_of::<Lead>(), 96);
+    assert_eq!(size_of::<Taken>(), 208);
+    assert_eq!(size_of::<Closed>(), 120);
     assert_eq!(align_of::<Component>(), 4);
     assert_eq!(align_of::<Record>(), 8);
 }
@@ -150,4 +154,24 @@ fn places_in_answers() {
     assert_eq!(offset_of!(Read, record), 16);
     assert_eq!(offset_of!(LogRecord, outcome), 24);
     assert_eq!(offset_of!(LogRecord, w6), 72);
+}
+
+#[test]
+fn places_in_readers() {
+    assert_eq!(offset_of!(Lead, standing), 0);
+    assert_eq!(offset_of!(Lead, refusal), 8);
+    assert_eq!(offset_of!(Lead, place), 16);
+    assert_eq!(offset_of!(Lead, records), 24);
+    assert_eq!(offset_of!(Lead, length), 32);
+    assert_eq!(offset_of!(Lead, kept), 40);
+    assert_eq!(offset_of!(Taken, lead), 0);
+    assert_eq!(offset_of!(Taken, refusal), 96);
+    assert_eq!(offset_of!(Taken, place), 104);
+    assert_eq!(offset_of!(Taken, used), 112);
+    assert_eq!(offset_of!(Taken, given), 120);
+    assert_eq!(offset_of!(Taken, record), 128);
+    assert_eq!(offset_of!(Closed, lead), 0);
+    assert_eq!(offset_of!(Closed, refusal), 96);
+    assert_eq!(offset_of!(Closed, place), 104);
+    assert_eq!(offset_of!(Closed, records), 112);
 }

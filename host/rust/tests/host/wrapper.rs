@@ -190,4 +190,12 @@ fn refusals_say_what_was_refused() {
         Refusal::DEPARTS.to_string(),
         "refused 35: log: the rules refuse a record's event, or answer it otherwise"
     );
+    assert_eq!(
+        Refusal::CLOSED.to_string(),
+        "refused 36: lead: a delivery or a second close after a good close"
+    );
+    assert_eq!(
+        Refusal::NO_READER.to_string(),
+        "refused 37: lead: a state that no reader has"
+    );
 }
