@@ -13,9 +13,10 @@ use words::number;
 use words::text;
 ghost use mathlib.Core.Path.{_≡_};
 ghost use Rattle.deliveries.specs.Lead.{isOpen};
-ghost use Rattle.deliveries.specs.Taken.{takenOf};
+ghost use Rattle.deliveries.specs.Taken.{takenOf, closingOf};
 ghost use Rattle.deliveries.specs.Shown.{delivered};
 ghost use Rattle.deliveries.specs.declared.Given.the-variants.{Record, Refused};
+ghost use Rattle.deliveries.specs.declared.Ending.the-variants as ending;
 
 // The line of a record that a delivery gives: its place is the number of those before it.
 fn line(lead: Lead, delivery: &[u8], r: LogRecord)
@@ -34,13 +35,20 @@ fn line(lead: Lead, delivery: &[u8], r: LogRecord)
     text(b"\n");
 }
 
-// The line of a refusal, whether a delivery or the end of input brought it.
+// The words of a refusal, whether a delivery or the end of input brought it.
 fn refusal(x: Refusal) {
     text(b"refused ");
     number(deliveries::number(x));
     text(b" at ");
     number(deliveries::place(x) as u64);
     text(b"\n");
+}
+
+// The line of a delivery that is refused.
+fn refused(lead: Lead, delivery: &[u8], x: Refusal)
+    requires { ⌜ takenOf lead (now delivery) .given ≡ Refused x ⌝ }
+{
+    refusal(x);
 }
 
 // The lines of what a delivery gives, and the reader after it.
@@ -56,7 +64,7 @@ fn deliver(first: Lead, delivery: &[u8]) -> Lead
         match given {
             Given::Nothing => return next,
             Given::Refused(x) => {
-                refusal(x);
+                refused(lead, &delivery[at..], x);
                 return next;
             }
             Given::Record(r) => {
@@ -69,17 +77,29 @@ fn deliver(first: Lead, delivery: &[u8]) -> Lead
     lead
 }
 
+// The line of a log that ends well.
+fn closed(lead: Lead, n: usize)
+    requires { ⌜ closingOf lead .ending ≡ ending.Records n ⌝ }
+{
+    text(b"closed ");
+    number(n as u64);
+    text(b"\n");
+}
+
+// The line of a log that ends in the middle of a record.
+fn unended(lead: Lead, x: Refusal)
+    requires { ⌜ closingOf lead .ending ≡ ending.Refused x ⌝ }
+{
+    refusal(x);
+}
+
 // The last line, where input ends.
 fn end(lead: Lead) {
     let closing = deliveries::close(lead);
     let ending = closing.ending;
     match ending {
-        Ending::Records(n) => {
-            text(b"closed ");
-            number(n as u64);
-            text(b"\n");
-        }
-        Ending::Refused(x) => refusal(x),
+        Ending::Records(n) => closed(lead, n),
+        Ending::Refused(x) => unended(lead, x),
     }
 }
 

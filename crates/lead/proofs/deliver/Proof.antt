@@ -69,14 +69,24 @@ returns c =
 enum-known-given : tie.Need-enum-known-given Inv-loop μ-loop
 enum-known-given c = search needs
 
-refusal-requires : tie.Need-refusal-requires Inv-loop μ-loop
-refusal-requires c κs = tt
+sub-refused : tie.Need-sub-refused Inv-loop μ-loop
+sub-refused c = search needs
+
+part-refused-start : tie.Need-part-refused-start Inv-loop μ-loop
+part-refused-start c = search needs
+
+part-refused-end : tie.Need-part-refused-end Inv-loop μ-loop
+part-refused-end c = search needs
+
+refused-requires : tie.Need-refused-requires Inv-loop μ-loop
+refused-requires c κs =
+    ap (λ (t : Taken). t .given) (sym (c .before .before .before .before .before .take .ensures .0)) ∙ c .before .before .given .given .1
 
 returns-2 : tie.Need-returns-2 Inv-loop μ-loop
 returns-2 c =
-    let k = c .before .before .before .before .before in
+    let k = c .before .before .before .before .before .before in
     let l = k .before .before .before in
-    ap (λ (t : Taken). t .lead) (call k) ∙ going-refused _ _ _ _ (l .loop .inv .1) _ (ap (λ (t : Taken). t .given) (sym (call k)) ∙ c .before .before .given .given .1)
+    ap (λ (t : Taken). t .lead) (call k) ∙ going-refused _ _ _ _ (l .loop .inv .1) _ (ap (λ (t : Taken). t .given) (sym (call k)) ∙ c .before .before .before .given .given .1)
 
 enum-known-given-2 : tie.Need-enum-known-given-2 Inv-loop μ-loop
 enum-known-given-2 c = search needs
@@ -123,7 +133,10 @@ deliver-spec =
     enum-told
     returns
     enum-known-given
-    refusal-requires
+    sub-refused
+    part-refused-start
+    part-refused-end
+    refused-requires
     returns-2
     enum-known-given-2
     sub-line
