@@ -1,4 +1,5 @@
 // takes a log through the agent and the plain reader side by side: bench BOARD LOG, two file names
+#![tactic(auto)]
 mod words;
 
 ghost use Rattle.std.specs.Prelude.{◌≡◌};

@@ -1,4 +1,5 @@
 // runs document 01's bench examples and writes what each gives
+#![tactic(auto)]
 mod logs;
 mod runs;
 

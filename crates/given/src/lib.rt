@@ -1,4 +1,5 @@
 // What the words of a program's command line give it: the bytes of a file, or a number.
+#![tactic(auto)]
 mod digits;
 mod files;
 

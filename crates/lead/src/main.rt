@@ -1,4 +1,5 @@
 // reads a log from standard input as it comes, and writes each record as soon as its last byte is there
+#![tactic(auto)]
 mod words;
 
 ghost use Rattle.std.specs.Prelude.{◌≡◌};

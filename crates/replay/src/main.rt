@@ -1,4 +1,5 @@
 // reads a log from standard input and writes which component is prepared at each place of it
+#![tactic(auto)]
 ghost use Rattle.std.specs.Prelude.{◌≡◌};
 ghost use Rattle.logbook.specs.Log.{past_of, checked_of};
 ghost use Rattle.logbook.specs.declared.Checked.TheVariants.{Records, Refused};

@@ -9,7 +9,7 @@ use Prim.Native.Nat.{ℕ, zero, ◌+◌}
 use mathlib.Core.List.{[], ◌∷◌, ◌++◌, List}
 use lib.ListN.{length}
 use seplogic.Ra.Ura.{Ura}
-use seplogic.Ra.TreeShare.{full_share}
+use base.Fraction.{full_share}
 use mir.Syntax.{Name, Sym, Ty, ty_int, ty_ref, ty_struct, tnil, tcons, w64, mut, named, erased, Lifetime, deref, field, place, copy, rv_opd, addr_of, aggregate, Body as Code, seq, assign, call, return, value_local, Local, local, Fn}
 use lib.Dec.{T as Holds}
 use mir.Val.{Val, vptr, vstruct, of_list, has_ty, WT}

@@ -1,4 +1,5 @@
 // says why an ACTIVATE at a place of a log is refused, held or started: why BOARD LOG PLACE CPU X1 X2 X3 X4, two file names and numbers
+#![tactic(auto)]
 mod words;
 
 ghost use Rattle.std.specs.Prelude.{◌≡◌};
