@@ -5,21 +5,21 @@ mod words;
 ghost use Rattle.std.specs.Prelude.{◌≡◌};
 ghost use Rattle.board.specs.Packed.{read_of};
 ghost use Rattle.board.specs.declared.Verdict.TheVariants as verdict;
-ghost use Rattle.logbook.specs.Log.{checked_of, record_at, said};
-ghost use Rattle.logbook.specs.declared.Checked.TheVariants.{Records, Refused};
+ghost use Rattle.log_book.specs.Log.{checked_of, record_at, said};
+ghost use Rattle.log_book.specs.declared.Checked.TheVariants.{Records, Refused};
 ghost use Rattle.trace.specs.Turn.{turn_at};
 
 use board::{Board, Verdict};
 use given::File;
 use log_record::LogRecord;
-use logbook::{Checked, Flaw};
+use log_book::{Checked, Flaw};
 use trace::Turn;
 use words::{failure, number, text};
 
 // One byte more than the longest description, and than the longest log: a file that fills it is too long, whatever follows.
 const BOARD_ROOM: usize = board::MOST_BYTES + 1;
 
-const LOG_ROOM: usize = logbook::MOST_BYTES + 1;
+const LOG_ROOM: usize = log_book::MOST_BYTES + 1;
 
 // The line of record k; where the record holds something else than the agent's answer, with that at the end.
 fn line(b: Board, log: &[u8], k: usize, r: LogRecord, t: Turn)
@@ -54,7 +54,7 @@ fn lines(board: &[u8], b: Board, log: &[u8], n: usize)
     let mut story = reader::opening();
     let mut k: usize = 0;
     while k < n {
-        let r = logbook::said_at(log, k);
+        let r = log_book::said_at(log, k);
         let t = trace::turned(rec, b, story, r);
         line(b, log, k, r, t);
         let passed = t.agent;
@@ -90,7 +90,7 @@ fn bench(board: &[u8], log: &[u8]) {
     let verdict = read.verdict;
     let b = read.board;
     match verdict {
-        Verdict::Accepted => match logbook::check_log(log, 0) {
+        Verdict::Accepted => match log_book::check_log(log, 0) {
             Checked::Records(n) => lines(board, b, log, n),
             Checked::Refused(f) => log_refused(log, f),
         },

@@ -1,7 +1,7 @@
 // The bench examples of the log.
 use crate::{byte, number, text};
 use log_record::{LogRecord, RECORD_BYTES};
-use logbook::{Answer, Checked, MOST_BYTES, MOST_RECORDS};
+use log_book::{Answer, Checked, MOST_BYTES, MOST_RECORDS};
 
 // The bytes of one record more than the longest log has.
 const TOO_LONG: usize = MOST_BYTES + RECORD_BYTES;
@@ -80,7 +80,7 @@ fn front<'a>(s: &'a [u8], n: usize) -> &'a [u8] {
 fn checking(log: &[u8]) {
     text(b"log of ");
     number(log.len() as u64);
-    match logbook::check_log(log, 0) {
+    match log_book::check_log(log, 0) {
         Checked::Records(count) => {
             text(b" bytes: records ");
             number(count as u64);
@@ -98,7 +98,7 @@ fn checking(log: &[u8]) {
 fn asking(log: &[u8], place: usize) {
     text(b"place ");
     number(place as u64);
-    match logbook::prepared_at(log, place) {
+    match log_book::prepared_at(log, place) {
         Answer::Found(p) => {
             text(b" of it: looked at ");
             number(p.looked as u64);

@@ -1,12 +1,12 @@
 // reads a log from standard input and writes which component is prepared at each place of it
 #![tactic(auto)]
 ghost use Rattle.std.specs.Prelude.{◌≡◌};
-ghost use Rattle.logbook.specs.Log.{past_of, checked_of};
-ghost use Rattle.logbook.specs.declared.Checked.TheVariants.{Records, Refused};
-ghost use Rattle.logbook.specs.Prepared.{prepared_of};
+ghost use Rattle.log_book.specs.Log.{past_of, checked_of};
+ghost use Rattle.log_book.specs.declared.Checked.TheVariants.{Records, Refused};
+ghost use Rattle.log_book.specs.Prepared.{prepared_of};
 
 use libc::{STDERR_FILENO, STDIN_FILENO, STDOUT_FILENO};
-use logbook::{Checked, Flaw, MOST_BYTES, Prepared, Primed};
+use log_book::{Checked, Flaw, MOST_BYTES, Prepared, Primed};
 
 // One byte more than the longest log: a log that fills it is too long, whatever follows.
 const ROOM: usize = MOST_BYTES + 1;
@@ -46,7 +46,7 @@ fn lines(log: &[u8], n: usize)
     line(log, 0, p);
     let mut k: usize = 0;
     while k < n {
-        p = logbook::prepared_next(log, k, p);
+        p = log_book::prepared_next(log, k, p);
         k += 1;
         line(log, k, p);
     }
@@ -65,7 +65,7 @@ fn refused(log: &[u8], f: Flaw)
 }
 
 fn replay(log: &[u8]) {
-    match logbook::check_log(log, 0) {
+    match log_book::check_log(log, 0) {
         Checked::Records(n) => {
             text(b"place primed looked\n");
             lines(log, n);
