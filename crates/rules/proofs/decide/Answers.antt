@@ -22,7 +22,7 @@ unfolding decide_of
 decided-by r e entries contexts a q z p = and_so (decided r e entries contexts) (p ∙ goes_on Refuse (event_of r e) r entries contexts a q)
 
 pub returns-in-Refused : goal.returns-in-Refused
-returns-in-Refused c = let both_ = decided-by _ _ _ _ (Refused _) (sym c.in-Refused.is ∙ c.admit.ensures.value) _ refl in record { value = both_.0; decided = both_.1 }
+returns-in-Refused c = let facts = decided-by _ _ _ _ (Refused _) (sym c.in-Refused.is ∙ c.admit.ensures.value) _ refl in record { value = facts.0; decided = facts.1 }
 
 -- of an event that was admitted
 stands : (c : In-Admitted) → let a = c.args in (z : Move) → z ≡ event_of a.rec a.e
@@ -30,13 +30,13 @@ stands : (c : In-Admitted) → let a = c.args in (z : Move) → z ≡ event_of a
 stands c z p = decided-by _ _ _ _ Admitted (sym c.in-Admitted.is ∙ c.admit.ensures.value) z p
 
 pub returns-in-Call : goal.returns-in-Call
-returns-in-Call c = let both_ = stands (goal.at.returns-in-Call c).In-Admitted _ (rw c.in-Call.is c.call.ensures) in record { value = both_.0; decided = both_.1 }
+returns-in-Call c = let facts = stands (goal.at.returns-in-Call c).In-Admitted _ (rw c.in-Call.is c.call.ensures) in record { value = facts.0; decided = facts.1 }
 
 pub returns-in-Prime : goal.returns-in-Prime
-returns-in-Prime c = let both_ = stands (goal.at.returns-in-Prime c).In-Admitted _ (rw c.in-Prime.is c.prime.ensures) in record { value = both_.0; decided = both_.1 }
+returns-in-Prime c = let facts = stands (goal.at.returns-in-Prime c).In-Admitted _ (rw c.in-Prime.is c.prime.ensures) in record { value = facts.0; decided = facts.1 }
 
 pub returns-in-Activate : goal.returns-in-Activate
-returns-in-Activate c = let both_ = stands (goal.at.returns-in-Activate c).In-Admitted _ (rw c.in-Activate.is c.activate.ensures) in record { value = both_.0; decided = both_.1 }
+returns-in-Activate c = let facts = stands (goal.at.returns-in-Activate c).In-Admitted _ (rw c.in-Activate.is c.activate.ensures) in record { value = facts.0; decided = facts.1 }
 
 pub returns-in-Image : goal.returns-in-Image
-returns-in-Image c = let both_ = stands (goal.at.returns-in-Image c).In-Admitted _ (rw c.in-Image.is c.image.ensures) in record { value = both_.0; decided = both_.1 }
+returns-in-Image c = let facts = stands (goal.at.returns-in-Image c).In-Admitted _ (rw c.in-Image.is c.image.ensures) in record { value = facts.0; decided = facts.1 }
