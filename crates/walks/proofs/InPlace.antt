@@ -14,7 +14,7 @@ use mir.Syntax.{Callee, Sym, Ty, ty_int, ty_ref, ty_struct, tnil, tcons, w64, mu
 use lib.Dec.{T as Holds}
 use mir.Val.{Val, vptr, vstruct, of_list, has_ty, WT}
 use base.Logic.{SProp, ent, sep, emp, via, fst∗, id⊢}
-use base.Fml.{GName, Lft, Share, ftrue, flft, fobs, fbor, fat}
+use base.Fml.{Fml, GName, Lft, Share, ftrue, fsep, flft, fobs, fbor, fat}
 use prog.Memory.{up, align, size}
 use prog.Model.{Model}
 use prog.Routine.{Routine, Env}
@@ -27,7 +27,8 @@ use types.Kit.{Go, ‵, raw, ◌⊛◌, some, later, ◌$◌, ◌∵◌, !, qed,
 use types.Run.{look_raw, store_raw, stop, hop, fld, from, load, addr, of_opd, and_then, no_more, assigns, returns, enter}
 use types.ByLocal.{alloc_all, pass_all, free_all, look_at, look_in_at, get, get_in, through, sets, lands_as}
 use types.Part.{agg, whole, sub, Part}
-use types.SemTy.{Body}
+use types.Hole.{Holey}
+use types.SemTy.{Arr, Body}
 use sound.WpLaws.{FmC, fm_of, WpFn-mono}
 use denote.Exit.{yes}
 use denote.RattleType.{RattleType, Denots, owns}
@@ -48,7 +49,7 @@ use denote.Triple.Call.{calls_at}
 use denote.Triple.Entry.{Args, on_entry}
 use denote.Triple.Spec.{Meets, triple_of}
 use denote.Triple.Table.{entered, cited}
-use denote.Triple.Walked.{Stays, stay_ref, stay_none, gave_slice, walk_of, AllGo, Goes-none, Goes-ref, Goes-gave_slice, ends_at, walked, walk_Meets}
+use denote.Triple.Walked.{Stays, stay_ref, stay_none, gave_slice, walk_of, on_exit, AllGo, Goes-none, Goes-ref, Goes-gave_slice, ends_at, walked, walk_Meets}
 use denote.Triple.Clauses.{Ended, Clauses, Lasts, closing, ensured, lasts, at_exit}
 use Rattle.basics.proofs.Walk.{stands, beside}
 use Rattle.walks.proofs.Plain as P
@@ -273,12 +274,17 @@ module _ (D : Door) where
         abbrev Done : D.Pair → List ℕ → List ℕ → Type 0
         Done r zs₁ zs₂ = Does D h e x₁.now x₂.now (D.said r) (D.next r) zs₁ zs₂
 
+        -- what is had of a table that was given up to the step for good
+        abbrev Given : Lft → MutBor (List ℕ) → List ℕ → Fml
+        Given κ y zs = fsep (finally u64 y.ghost_name zs) (fbor κ (Body (Arr (Holey (mem u64)) (length y.now)) y.ref_ptr.0 y.ref_ptr.1 y.ghost_name))
+
         exits : (r : D.Pair) (zs₁ zs₂ : List ℕ) → Done r zs₁ zs₂ → length zs₁ ≡ length x₁.now → length zs₂ ≡ length x₂.now → Is N (D.said r) (ans-val (D.said r) ∷ [])
-            → ent 𝓤 (sep 𝓤 (A.obs γ (R.coded.code (D.next r))) (sep 𝓤 (A.bor κ (Body (mem R) b o γ)) (sep 𝓤 (A.lft κ q) (sep 𝓤 (sep 𝓤 (A.lft κ₁ q₁) (sep 𝓤 (A.lft κ₂ q₂) (sem 𝓛 ftrue))) (sep 𝓤 (sem 𝓛 (finally u64 x₁.ghost_name zs₁)) (sem 𝓛 (finally u64 x₂.ghost_name zs₂))))))) (Post (ans-val (D.said r)))
+            → ent 𝓤 (sep 𝓤 (A.obs γ (R.coded.code (D.next r))) (sep 𝓤 (A.bor κ (Body (mem R) b o γ)) (sep 𝓤 (A.lft κ q) (sep 𝓤 (sep 𝓤 (A.lft κ₁ q₁) (sep 𝓤 (A.lft κ₂ q₂) (sem 𝓛 ftrue))) (sep 𝓤 (sem 𝓛 (Given κ₁ x₁ zs₁)) (sem 𝓛 (Given κ₂ x₂ zs₂))))))) (Post (ans-val (D.said r)))
         exits r zs₁ zs₂ p m₁ m₂ is-a =
-            qed 𝓛 (‵ (fobs γ (R.coded.code (D.next r))) ∷ ‵ (fbor κ (Body (mem R) b o γ)) ∷ ‵ (flft κ q) ∷ (‵ (flft κ₁ q₁) ⊛ (‵ (flft κ₂ q₂) ⊛ ‵ ftrue)) ∷ ‵ (finally u64 x₁.ghost_name zs₁) ∷ ‵ (finally u64 x₂.ghost_name zs₂) ∷ []) ∵
+            let Left : SProp 𝓤 = on_exit 𝓛 ended stayed (κ, (κ₁, (κ₂, tt))) (q, (q₁, (q₂, tt))) at (ans-val (D.said r)) (D.said r) x (D.next r, (tt, (zs₁, (zs₂, tt)))) in
+            qed 𝓛 (‵ (fobs γ (R.coded.code (D.next r))) ∷ ‵ (fbor κ (Body (mem R) b o γ)) ∷ ‵ (flft κ q) ∷ (‵ (flft κ₁ q₁) ⊛ (‵ (flft κ₂ q₂) ⊛ ‵ ftrue)) ∷ ‵ (Given κ₁ x₁ zs₁) ∷ ‵ (Given κ₂ x₂ zs₂) ∷ []) ∵
             suffices ! _ (ends_at 𝓛 ended stayed c (((κ, (κ₁, (κ₂, tt))), (q, (q₁, (q₂, tt))), tt, x, at), g) (ans-val (D.said r)) (D.said r) (D.next r, (tt, (zs₁, (zs₂, tt)))) (tt, (tt, (m₁, (m₂, tt))))) $
-            suffices ! _ (beside 𝓤 _ (promised (κ, (κ₁, (κ₂, tt))) x g (D.said r) (D.next r, (tt, (zs₁, (zs₂, tt)))) p)) $ move ! (2 ∷ 3 ∷ []) $ join ! $
+            suffices ! Left (beside 𝓤 Left (promised (κ, (κ₁, (κ₂, tt))) x g (D.said r) (D.next r, (tt, (zs₁, (zs₂, tt)))) p)) $ move ! (2 ∷ 3 ∷ []) $ join ! $
             frame ! $ feq_i ! (List Val) (vptr b o ∷ []) (vptr b o ∷ []) refl $ fjoin3 ! $ nothing ! $ move ! (3 ∷ 0 ∷ []) $ fjoin ! $ move ! (2 ∷ 0 ∷ []) $ fjoin ! $
             owned ! E (Is E) (P.makes D.event 𝓛) e _ is-e $ fjoin ! $
             move ! (1 ∷ 0 ∷ []) $ fjoin ! $ owned ! N (Is N) (P.makes D.answer 𝓛) (D.said r) _ is-a $ move ! (1 ∷ 0 ∷ []) $ done !
@@ -304,7 +310,18 @@ module _ (D : Door) where
               alloc_all ! (λ l. pass_all ! refl ((tt, tt), (P.typed D.event 𝓛 e is-e, ((tt, (tt, (record { fits = room₁.0 }, tt))), ((tt, (tt, (record { fits = room₂.0 }, tt))), tt)))) $
               opens ! tt R {h = h} b o (λ vs. spelt ! R (Is R) (shows 𝓛 R) (λ h. rec-val h ∷ []) (P.tells D.rec) full_share h vs b o $
               move ! (1 ∷ []) $ peeks ! R (Is R) (shows 𝓛 R) h (rec-val h ∷ []) (λ is-h. move ! (1 ∷ 0 ∷ []) $
-              ?)))
+              sets ! (of_opd ! (load ! (through ! refl (stop !)) (look_raw ! 0 refl))) refl (P.typed D.rec 𝓛 h is-h) $
+              sets ! (addr ! (from ! (fld ! refl (hop ! (look_in_at ! 3 (sub ! 0 refl (whole !))) (stop !))))) refl (tt, tt) $
+              sets ! (agg ! (and_then ! (get ! refl) (and_then ! (get_in ! (fld ! refl (stop !)) (sub ! 1 refl (whole !))) (no_more !)))) refl (tt, (tt, (record { fits = room₁.0 }, tt))) $
+              sets ! (addr ! (from ! (fld ! refl (hop ! (look_in_at ! 4 (sub ! 0 refl (whole !))) (stop !))))) refl (tt, tt) $
+              sets ! (agg ! (and_then ! (get ! refl) (and_then ! (get_in ! (fld ! refl (stop !)) (sub ! 1 refl (whole !))) (no_more !)))) refl (tt, (tt, (record { fits = room₂.0 }, tt))) $
+              move ! (5 ∷ 6 ∷ 7 ∷ []) $ use3 𝓛 (raw (Step.pre to_step)) (goes_step is-h) $
+              calls_at ! fm Step known to_step (and_then ! (get ! refl) (and_then ! (get ! refl) (and_then ! (get ! refl) (and_then ! (get ! refl) (no_more !))))) (λ v.
+              use1 𝓛 (later (some (λ (r : D.Pair). ((‵ (flft κ₁ q₁) ⊛ (‵ (flft κ₂ q₂) ⊛ ‵ ftrue)) ⊛ ‵ (S.own_val r (v ∷ []))) ⊛ raw (ensured 𝓛 stepping (steps 𝓤) (κ₁, (κ₂, tt)) (h, (e, (x₁, (x₂, tt)))) tt r)))) (id⊢ 𝓤 _) $ await ! tt $ pick ! (λ r.
+              split ! $ move ! (1 ∷ []) $ use1 𝓛 (some (λ (zs : Unit {0} × (Unit {0} × (List ℕ × (List ℕ × Unit {0})))). ‵ (lasts stepping (κ₁, (κ₂, tt)) (h, (e, (x₁, (x₂, tt)))) zs) ⊛ raw (fact 𝓤 (r ≡ D.step_of h e (length x₁.now) (length x₂.now))) ⊛ raw (fact 𝓤 (zs.1.1.0 ≡ D.entries_of h e x₁.now x₂.now)) ⊛ raw (facts 𝓤 (zs.1.1.1.0 ≡ D.contexts_of h e x₁.now x₂.now) (D.more h e (length x₁.now) (length x₂.now) r)))) (id⊢ 𝓤 _) $ pick ! (λ zs.
+              split ! $ move ! (1 ∷ []) $ split ! $ heard ! (r ≡ D.step_of h e (length x₁.now) (length x₂.now)) (λ t. split ! $ heard ! (zs.1.1.0 ≡ D.entries_of h e x₁.now x₂.now) (λ t₁. use1 𝓛 (raw (fact 𝓤 (zs.1.1.1.0 ≡ D.contexts_of h e x₁.now x₂.now))) (first-fact 𝓤 (D.more h e (length x₁.now) (length x₂.now) r)) $ heard ! (zs.1.1.1.0 ≡ D.contexts_of h e x₁.now x₂.now) (λ t₂.
+              fsplit ! $ drop ! $ fsplit ! $ drop ! $ fsplit ! $ fsplit ! $ fsplit ! $ move ! (1 ∷ []) $ feq_l ! (λ m₁. fjoin ! $ move ! (1 ∷ []) $ fsplit ! $ fsplit ! $ fsplit ! $ move ! (1 ∷ []) $ feq_l ! (λ m₂. fjoin ! $ move ! (2 ∷ 0 ∷ []) $
+              ?)))))))))))
 
       goes : AllGo 𝓛 3 ended.signature.params ended.kept stayed
       goes = (Goes-ref 𝓛 3 0 tt (plain (λ _. R)), (Goes-none 𝓛 3 (λ _. E) yes (λ κs x f. refl), (Goes-gave_slice 𝓛 3 1 tt (plain (λ _. u64)), (Goes-gave_slice 𝓛 3 2 tt (plain (λ _. u64)), tt))))
