@@ -23,7 +23,7 @@ use types.Logic.{Logic, sem}
 use contract.Monad.{fact}
 use contract.Lifetimes.{Lfts}
 use contract.Running.{Running, tables, tables_of}
-use types.Kit.{Go, ‵, raw, ◌⊛◌, some, later, ◌$◌, ◌∵◌, !, qed, by, move, keep, drop, use1, use3, split, join, pick, rewrite, fsplit, fsplit3, fjoin, fjoin3, feq_i, feq_l, suffices, frame, await, done}
+use types.Kit.{Go, ‵, raw, ◌⊛◌, some, later, ◌$◌, ◌∵◌, !, qed, by, move, keep, drop, use1, use3, split, join, pick, fsplit, fsplit3, fjoin, fjoin3, feq_i, feq_l, suffices, frame, await, done}
 use types.Run.{look_raw, store_raw, stop, hop, fld, from, load, addr, of_opd, and_then, no_more, assigns, returns, enter}
 use types.ByLocal.{alloc_all, pass_all, free_all, look_at, look_in_at, get, get_in, through, sets, lands_as}
 use types.Part.{agg, whole, sub, Part}
@@ -248,6 +248,9 @@ module _ (D : Door) where
           (subst (λ (τs : List Ty). Typed (ty_struct D.pair-name (tcons D.rec.mir (to_tys (τs ++ []))) ∷ []) (v ∷ [])) D.answer.layout
           (subst (λ (τs : List Ty). Typed (ty_struct D.pair-name (to_tys (τs ++ (D.answer.field.row.mir ++ []))) ∷ []) (v ∷ [])) D.rec.layout ((Struct-Lawful 𝓛 pair-shape (LL.lawfuls 𝓛 pair-parts pair-laws)).typed (pair-to r) _ is))).0
 
+      pair_fits : (r : D.Pair) (v : Val) → Is S r (v ∷ []) → Holds (has_ty pair-mir (pair-val r)) × WT (pair-val r)
+      pair_fits r v is = subst (λ (u : Val). Holds (has_ty pair-mir u) × WT u) (pair-tells r v is) (pair_typed r v is)
+
       next-part : (l : ℕ) (r : D.Pair) → Part (Go {0}) 𝓛 (‵ (fat full_share pair-mir l zero (pair-val r))) full_share D.rec.mir l (zero + at_next) (rec-val (D.next r)) (λ u. ‵ (fat full_share pair-mir l zero (vstruct (of_list (u ∷ ans-val (D.said r) ∷ [])))))
       next-part l r = sub ! 0 refl (whole !)
 
@@ -321,7 +324,17 @@ module _ (D : Door) where
               split ! $ move ! (1 ∷ []) $ use1 𝓛 (some (λ (zs : Unit {0} × (Unit {0} × (List ℕ × (List ℕ × Unit {0})))). ‵ (lasts stepping (κ₁, (κ₂, tt)) (h, (e, (x₁, (x₂, tt)))) zs) ⊛ raw (fact 𝓤 (r ≡ D.step_of h e (length x₁.now) (length x₂.now))) ⊛ raw (fact 𝓤 (zs.1.1.0 ≡ D.entries_of h e x₁.now x₂.now)) ⊛ raw (facts 𝓤 (zs.1.1.1.0 ≡ D.contexts_of h e x₁.now x₂.now) (D.more h e (length x₁.now) (length x₂.now) r)))) (id⊢ 𝓤 _) $ pick ! (λ zs.
               split ! $ move ! (1 ∷ []) $ split ! $ heard ! (r ≡ D.step_of h e (length x₁.now) (length x₂.now)) (λ t. split ! $ heard ! (zs.1.1.0 ≡ D.entries_of h e x₁.now x₂.now) (λ t₁. use1 𝓛 (raw (fact 𝓤 (zs.1.1.1.0 ≡ D.contexts_of h e x₁.now x₂.now))) (first-fact 𝓤 (D.more h e (length x₁.now) (length x₂.now) r)) $ heard ! (zs.1.1.1.0 ≡ D.contexts_of h e x₁.now x₂.now) (λ t₂.
               fsplit ! $ drop ! $ fsplit ! $ drop ! $ fsplit ! $ fsplit ! $ fsplit ! $ move ! (1 ∷ []) $ feq_l ! (λ m₁. fjoin ! $ move ! (1 ∷ []) $ fsplit ! $ fsplit ! $ fsplit ! $ move ! (1 ∷ []) $ feq_l ! (λ m₂. fjoin ! $ move ! (2 ∷ 0 ∷ []) $
-              ?)))))))))))
+              move ! (3 ∷ []) $ split ! $ move ! (1 ∷ []) $ peeks ! S (Is S) (shows 𝓛 S) r (v ∷ []) (λ is. drop ! $
+              -- [the tables' tokens; what is had of the tables; true; the record's cell; what it owned; the open borrow; obs; auth; true; the locals]
+              lands_as ! (pair-tells r v is) refl (pair_fits r v is) $
+              sets ! (of_opd ! (get_in ! (fld ! {τ = D.rec.mir} {d = at_next} refl (stop !)) (next-part (l 5) r))) refl (P.typed D.rec 𝓛 (D.next r) (parts r v is).0) $
+              assigns ! (of_opd ! (get ! refl)) (through ! refl (stop !)) (store_raw ! 4 refl (P.typed D.rec 𝓛 (D.next r) (parts r v is).0)) $
+              sets ! (of_opd ! (get_in ! (fld ! {τ = D.answer.mir} {d = at-said} refl (stop !)) (said-part (l 5) r))) refl (P.typed D.answer 𝓛 (D.said r) (parts r v is).1) $
+              move ! (4 ∷ 5 ∷ 6 ∷ 7 ∷ 8 ∷ []) $ move ! (1 ∷ []) $ drop ! $
+              owned ! R (Is R) (P.makes D.rec 𝓛) (D.next r) _ (parts r v is).0 $ move ! (1 ∷ 0 ∷ []) $ closes ! tt R (D.next r) (rec-val (D.next r) ∷ []) b o $
+              -- [obs; the borrow; its token; the tables' tokens; what is had of the tables; ..]
+              returns ! (look_at ! 0 refl) $ free_all ! refl $ keep ! (0 ∷ 1 ∷ 2 ∷ 3 ∷ 4 ∷ 5 ∷ []) $
+              by ! (exits r zs.1.1.0 zs.1.1.1.0 (record { answered = ap D.said t; stored = ap D.next t; entries = t₁; contexts = t₂ }) m₁ m₂ (parts r v is).1)))))))))))))
 
       goes : AllGo 𝓛 3 ended.signature.params ended.kept stayed
       goes = (Goes-ref 𝓛 3 0 tt (plain (λ _. R)), (Goes-none 𝓛 3 (λ _. E) yes (λ κs x f. refl), (Goes-gave_slice 𝓛 3 1 tt (plain (λ _. u64)), (Goes-gave_slice 𝓛 3 2 tt (plain (λ _. u64)), tt))))
