@@ -3,4 +3,4 @@ use Rattle.flat.specs.Leads.{flat_lead}
 use Rattle.flat.proofs.lead_open.Goals as goal
 
 pub returns : goal.returns
-returns c = c.flat.ensures ∙ ap flat_lead (goal.at.returns c).After-open.«open».ensures
+returns c = c.flat.ensures ∙ ap flat_lead c.«open».ensures

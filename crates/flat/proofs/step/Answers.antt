@@ -44,11 +44,15 @@ module _ (f : FlatRecord) (e : FlatEvent) (entries contexts : List ℕ) (r : Fla
 
 pub returns-in-Known : goal.returns-in-Known
 returns-in-Known c =
-    in-turn _ _ _ _ _ (by c.is_flat.ensures c.if-is_flat.true) _ (goal.at.returns-in-Known c).After-record-rec.«record».ensures _ (sym c.event.ensures ∙ c.in-Known.is) _ _ _
-    c.step-s.ensures.value c.step-s.ensures.entries_after c.step-s.ensures.contexts_after c.stepped.ensures
+    let facts = in-turn _ _ _ _ _ (by c.is_flat.ensures c.if-is_flat.true) _ c.record-rec.ensures _ (sym c.event.ensures ∙ c.in-Known.is) _ _ _ c.step-s.ensures.value c.step-s.ensures.entries_after c.step-s.ensures.contexts_after c.stepped.ensures in
+    record { value = facts.0; entries_after = facts.1.0; contexts_after = facts.1.1 }
 
 pub returns-in-Unknown : goal.returns-in-Unknown
-returns-in-Unknown c = let facts = no_kind _ _ _ _ _ (by c.is_flat.ensures c.if-is_flat.true) _ (goal.at.returns-in-Unknown c).After-record-rec.«record».ensures (sym c.event.ensures ∙ c.in-Unknown.is) _ c.no_event-number.ensures c.refused.ensures in record { value = facts.0; entries_after = facts.1.0; contexts_after = facts.1.1 }
+returns-in-Unknown c =
+    let facts = no_kind _ _ _ _ _ (by c.is_flat.ensures c.if-is_flat.true) _ c.record-rec.ensures (sym c.event.ensures ∙ c.in-Unknown.is) _ c.no_event-number.ensures c.refused.ensures in
+    record { value = facts.0; entries_after = facts.1.0; contexts_after = facts.1.1 }
 
 pub returns-else-is_flat : goal.returns-else-is_flat
-returns-else-is_flat c = let facts = no_record _ _ _ _ _ (by c.is_flat.ensures c.if-is_flat.false) _ c.number.ensures c.refused-else-is_flat.ensures in record { value = facts.0; entries_after = facts.1.0; contexts_after = facts.1.1 }
+returns-else-is_flat c =
+    let facts = no_record _ _ _ _ _ (by c.is_flat.ensures c.if-is_flat.false) _ c.number.ensures c.refused-else-is_flat.ensures in
+    record { value = facts.0; entries_after = facts.1.0; contexts_after = facts.1.1 }
