@@ -1,7 +1,7 @@
 -- One case for each return, as in `logged_in`: refused, an event of no kind, or what `trace::logged` promises of the answer read back.
 use mathlib.Core.Path.{sym}
 use borrow.Author.Tests.{eq-eqb, ne_eqb}
-use Rattle.basics.specs.Choice.{no, yes}
+use Rattle.basics.proofs.Choice.{no, yes}
 use Rattle.flat.specs.Answers.{accepted_in, logged_in}
 use Rattle.flat.proofs.answers.logged.Goals as goal
 

@@ -1,6 +1,6 @@
 -- One word for each test on the way.
 use borrow.Author.Tests.{eq-eqb, ne_eqb}
-use Rattle.basics.specs.Choice.{yes, no}
+use Rattle.basics.proofs.Choice.{yes, no}
 use Rattle.flat.specs.Leads.{standing_in}
 use Rattle.flat.proofs.leads.standing.Goals as goal
 
