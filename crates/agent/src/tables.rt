@@ -32,7 +32,7 @@ pub(crate) fn resuming(o: Outcome) -> CpuSet
 }
 
 // Where a CPU resumes: one that is switched on where its caller says, one that was held where it said itself.
-#[derive(Drop)]
+#[derive(Clone, Copy)]
 pub enum Source {
     Own,
     Given(Waking),

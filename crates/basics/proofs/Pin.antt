@@ -10,7 +10,7 @@ use base.Logic.{SProp, ent, sep, via, fst∗, snd∗}
 use contract.Lifetimes.{Lfts}
 use contract.Monad.{fact, fact_i, fact_use, fact_mono}
 use borrow.Fn.Kinds.{Out, ParamKind, ResultKind, Dens, res_t, ended_of}
-use denote.Ref.{Bor}
+use denote.Ref.{Bor, MutBor}
 use denote.Triple.Entry.{Args, Res}
 use denote.Triple.Clauses.{Ended, Clauses, Lasts, at_exit}
 
@@ -27,6 +27,10 @@ OneOutcome n ps r P = OneBy n ps r (λ κs z z'. z ≡ z') P
 -- name under which a proof tracks what it holds: it is new with each part, so no promise can say it, and no program has it
 abbrev pub OnePart : {X : Type 0} → Bor X → Bor X → Type 0
 OnePart p q = (p.now ≡ q.now) × (p.ref_ptr ≡ q.ref_ptr)
+
+-- the same of parts that may be written to
+abbrev pub OneMutPart : {X : Type 0} → MutBor X → MutBor X → Type 0
+OneMutPart p q = (p.now ≡ q.now) × (p.ref_ptr ≡ q.ref_ptr)
 
 -- the same of a function that is proved by a walk, whose contract has no plain reading: whatever entails the generated
 -- `ensures` of two outcomes entails that they are one

@@ -10,7 +10,7 @@ const WIDEST: usize = 64;
 const WIDEST_BYTES: usize = 8;
 
 // What a field is: its value, or that it has bits outside the slice or more of them than a word.
-#[derive(Drop)]
+#[derive(Clone, Copy)]
 pub enum Field {
     Value(u64),
     Outside,

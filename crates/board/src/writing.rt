@@ -57,7 +57,7 @@ fn put_component(buf: &mut [u8], k: usize, c: Component)
 
 fn put_head(buf: &mut [u8], b: Board)
     requires counted { Counted b }
-    requires head_length_in_bounds { head_length ≤ length buf.old }
+    requires room { head_length ≤ length buf.old }
     ensures { buf.new ≡ put buf.old 0 (head_bytes b) }
 {
     let counts = (b.components - 1) * 64 + (b.cpus - 1);
@@ -68,8 +68,8 @@ fn put_head(buf: &mut [u8], b: Board)
 
 // The components within the count, one after another, past the head.
 fn put_components(buf: &mut [u8], b: Board)
-    requires components_le_most_components { b.components ≤ most_components }
-    requires components_in_bounds { length_of b.components ≤ length buf.old }
+    requires few { b.components ≤ most_components }
+    requires room { length_of b.components ≤ length buf.old }
     ensures buf_after { buf.new ≡ put buf.old head_length (in_turn b.components (bytes_at b)) }
     ensures each_typed { EachTyped b b.components }
 {
@@ -87,7 +87,7 @@ pub(crate) fn put_writable(buf: &mut [u8], b: Board) -> Written
     requires { Counted b }
     ensures value { result ≡ put_by Kept (length buf.old) (length_of b.components) }
     ensures buf_after { buf.new ≡ put buf.old 0 (part_by result b) }
-    ensures result_value { length_in result ≡ length (part_by result b) }
+    ensures part_length { length_in result ≡ length (part_by result b) }
     ensures described_if { DescribedIf result b }
 {
     let n = HEAD + EACH * (b.components as usize);

@@ -10,7 +10,7 @@ use board::Board;
 use cpuset::CpuSet;
 
 // What the board is doing, with the component it is about.
-#[derive(Drop)]
+#[derive(Clone, Copy)]
 pub enum State {
     Idle,
     Preparing(u64),
@@ -47,14 +47,14 @@ pub const DEAD: usize = 8;
 pub const WITHDRAWN: usize = 9;
 
 // What a state is about: nothing, or a component.
-#[derive(Drop)]
+#[derive(Clone, Copy)]
 pub enum Subject {
     Nothing,
     Of(u64),
 }
 
 // How many of the powered CPUs are held.
-#[derive(Drop)]
+#[derive(Clone, Copy)]
 pub enum Holding {
     Nobody,
     One,
@@ -64,7 +64,7 @@ pub enum Holding {
 
 // The record of a board: its description, the pending images with their versions, the state, the powered and the held
 // CPUs, the entries and context ids of those that may be resumed by entry, and whether GET_INFO is noted.
-#[derive(Drop)]
+#[derive(Clone, Copy)]
 pub struct Record {
     pub board: Board,
     pub pending: [bool; board::MOST_COMPONENTS],

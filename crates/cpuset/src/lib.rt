@@ -8,7 +8,7 @@ pub const ROOM: u64 = 64;
 
 // Number i is a member where bit i is set.
 #[repr(C)]
-#[derive(Drop)]
+#[derive(Clone, Copy)]
 pub struct CpuSet {
     pub bits: u64,
 }

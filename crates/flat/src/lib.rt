@@ -31,7 +31,7 @@ const ANSWER_SIZE: u64 = 80;
 
 // What a host compares before all else: the library's ABI number, and the bytes of a record, an event and an answer.
 #[repr(C)]
-#[derive(Drop)]
+#[derive(Clone, Copy)]
 pub struct FlatAbi {
     pub number: u64,
     pub rec: u64,
@@ -41,7 +41,7 @@ pub struct FlatAbi {
 
 // A component; a flag is 0 or 1.
 #[repr(C)]
-#[derive(Drop)]
+#[derive(Clone, Copy)]
 pub struct FlatComponent {
     pub uuid: [u8; UUID_BYTES],
     pub svn: u32,
@@ -51,7 +51,7 @@ pub struct FlatComponent {
 }
 
 #[repr(C)]
-#[derive(Drop)]
+#[derive(Clone, Copy)]
 pub struct FlatBoard {
     pub components: u64,
     pub cpus: u64,
@@ -63,7 +63,7 @@ pub struct FlatBoard {
 // A board's record. The state is its place in document 01's table of rules, from 0 (idle) on; subject is its component, and 0
 // in idle and dead.
 #[repr(C)]
-#[derive(Drop)]
+#[derive(Clone, Copy)]
 pub struct FlatRecord {
     pub board: FlatBoard,
     pub pending: [u8; MOST_COMPONENTS],
@@ -79,7 +79,7 @@ pub struct FlatRecord {
 
 // An event: its kind, as the log numbers them, says which of the three counts.
 #[repr(C)]
-#[derive(Drop)]
+#[derive(Clone, Copy)]
 pub struct FlatEvent {
     pub kind: u64,
     pub call: Call,
@@ -90,7 +90,7 @@ pub struct FlatEvent {
 // An answer: 0 or the number of the refusal; then the caller's part, as the log numbers outcomes, 0 where there is none, with
 // X0 to X3; then the release, 0 for nobody, 1 with X0 and X1, 2 by entry address, and the CPUs.
 #[repr(C)]
-#[derive(Drop)]
+#[derive(Clone, Copy)]
 pub struct FlatAnswer {
     pub refusal: u64,
     pub caller: u64,
@@ -101,7 +101,7 @@ pub struct FlatAnswer {
 
 // The record after an event, and the answer.
 #[repr(C)]
-#[derive(Drop)]
+#[derive(Clone, Copy)]
 pub struct FlatStepped {
     pub rec: FlatRecord,
     pub answer: FlatAnswer,
@@ -109,7 +109,7 @@ pub struct FlatStepped {
 
 // A fresh record, or the number of the refusal and zeros.
 #[repr(C)]
-#[derive(Drop)]
+#[derive(Clone, Copy)]
 pub struct FlatFresh {
     pub refusal: u64,
     pub rec: FlatRecord,
@@ -117,7 +117,7 @@ pub struct FlatFresh {
 
 // How many bytes were written, or the number of the refusal and 0.
 #[repr(C)]
-#[derive(Drop)]
+#[derive(Clone, Copy)]
 pub struct FlatWritten {
     pub refusal: u64,
     pub bytes: usize,
@@ -125,7 +125,7 @@ pub struct FlatWritten {
 
 // A log record that was read, with how many bytes it took; or the number of the refusal and zeros.
 #[repr(C)]
-#[derive(Drop)]
+#[derive(Clone, Copy)]
 pub struct FlatRead {
     pub refusal: u64,
     pub bytes: usize,
@@ -134,7 +134,7 @@ pub struct FlatRead {
 
 // A component, where found is 1; both are 0 where there is none.
 #[repr(C)]
-#[derive(Drop)]
+#[derive(Clone, Copy)]
 pub struct FlatFound {
     pub found: u64,
     pub component: u64,
@@ -142,7 +142,7 @@ pub struct FlatFound {
 
 // What is prepared, with how many records were looked at; or the number of a refusal and the place of the record to blame.
 #[repr(C)]
-#[derive(Drop)]
+#[derive(Clone, Copy)]
 pub struct FlatPrepared {
     pub refusal: u64,
     pub place: usize,
@@ -152,7 +152,7 @@ pub struct FlatPrepared {
 
 // What starts; or the number of a refusal and the place of the record to blame.
 #[repr(C)]
-#[derive(Drop)]
+#[derive(Clone, Copy)]
 pub struct FlatStarted {
     pub refusal: u64,
     pub place: usize,
@@ -161,7 +161,7 @@ pub struct FlatStarted {
 
 // The CPUs that a log tells of; or the number of a refusal and the place of the record to blame.
 #[repr(C)]
-#[derive(Drop)]
+#[derive(Clone, Copy)]
 pub struct FlatCpus {
     pub refusal: u64,
     pub place: usize,
@@ -171,7 +171,7 @@ pub struct FlatCpus {
 // The number of a reason, from 1 on, with the component and the CPUs that it names; or the number of a refusal and the place of
 // the record to blame.
 #[repr(C)]
-#[derive(Drop)]
+#[derive(Clone, Copy)]
 pub struct FlatWhy {
     pub refusal: u64,
     pub place: usize,
@@ -183,7 +183,7 @@ pub struct FlatWhy {
 // A reader of deliveries. Its standing is 0 (open), 1 (closed well) or 2 (refused, with the number and the place of that; both are 0
 // else); then how many records it has given, and the bytes that it keeps, with zeros past them.
 #[repr(C)]
-#[derive(Drop)]
+#[derive(Clone, Copy)]
 pub struct FlatLead {
     pub standing: u64,
     pub refusal: u64,
@@ -196,7 +196,7 @@ pub struct FlatLead {
 // The reader after a delivery, how many bytes of it were used, and a record, where given is 1; or the number of a refusal and the
 // place of the record to blame.
 #[repr(C)]
-#[derive(Drop)]
+#[derive(Clone, Copy)]
 pub struct FlatTaken {
     pub lead: FlatLead,
     pub refusal: u64,
@@ -208,7 +208,7 @@ pub struct FlatTaken {
 
 // The reader after closing, and how many records there were; or the number of a refusal and the place of the record to blame.
 #[repr(C)]
-#[derive(Drop)]
+#[derive(Clone, Copy)]
 pub struct FlatClosed {
     pub lead: FlatLead,
     pub refusal: u64,

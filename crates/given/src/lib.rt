@@ -24,14 +24,14 @@ const HEX: u64 = 16;
 const MARK: usize = 2;
 
 // How many bytes were read, or that the file can't be.
-#[derive(Drop)]
+#[derive(Clone, Copy)]
 pub enum File {
     Bytes(usize),
     Unread,
 }
 
 // The number that a word says, or that it says none.
-#[derive(Drop)]
+#[derive(Clone, Copy)]
 pub enum Numeral {
     Number(u64),
     NotOne,

@@ -19,7 +19,7 @@ use rules::{Event, Refusal};
 
 // An ACTIVATE: the CPU that makes it, and its registers but X0.
 #[repr(C)]
-#[derive(Drop)]
+#[derive(Clone, Copy)]
 pub struct Activate {
     pub cpu: u64,
     pub x1: u64,
@@ -30,7 +30,7 @@ pub struct Activate {
 
 // The rules of ACTIVATE, in document 01's order, each with what it names: the state's component, or the powered CPUs still
 // missing.
-#[derive(Drop)]
+#[derive(Clone, Copy)]
 pub enum Reason {
     NothingPrepared,
     BeingPrepared(u64),
@@ -51,7 +51,7 @@ pub enum Reason {
 
 // The reason; or why there is none: the board's refusal, the log's, the place of the first record that is not the agent's own, or
 // the caller's.
-#[derive(Drop)]
+#[derive(Clone, Copy)]
 pub enum Explained {
     Because(Reason),
     BoardRefused(board::Refusal),

@@ -6,7 +6,7 @@ ghost use Rattle.rules.specs.Table.{row_at, rule_of};
 use board_record::{STATES, State};
 
 // What PRIME does: the try, the try of the state's component alone, or a status -k.
-#[derive(Drop)]
+#[derive(Clone, Copy)]
 pub enum PrimeCell {
     Try,
     TrySame,
@@ -14,14 +14,14 @@ pub enum PrimeCell {
     NoCaller,
 }
 
-#[derive(Drop)]
+#[derive(Clone, Copy)]
 pub enum ActivateCell {
     Try,
     Answers(u64),
     NoCaller,
 }
 
-#[derive(Drop)]
+#[derive(Clone, Copy)]
 pub enum CancelCell {
     ToIdle,
     Withdraw,
@@ -29,14 +29,14 @@ pub enum CancelCell {
     NoCaller,
 }
 
-#[derive(Drop)]
+#[derive(Clone, Copy)]
 pub enum PowerCell {
     Free,
     Frozen,
     NoCaller,
 }
 
-#[derive(Drop)]
+#[derive(Clone, Copy)]
 pub struct Row {
     pub prime: PrimeCell,
     pub activate: ActivateCell,

@@ -16,7 +16,7 @@ use codes::Call;
 
 // The end of a job: of which component, and how it went.
 #[repr(C)]
-#[derive(Drop)]
+#[derive(Clone, Copy)]
 pub struct Report {
     pub component: u64,
     pub code: u64,
@@ -24,14 +24,14 @@ pub struct Report {
 
 // An image that arrived: of which component, and its security version.
 #[repr(C)]
-#[derive(Drop)]
+#[derive(Clone, Copy)]
 pub struct Image {
     pub component: u64,
     pub version: u32,
 }
 
 // What can happen to a board.
-#[derive(Drop)]
+#[derive(Clone, Copy)]
 pub enum Event {
     Call(Call),
     Prime(Report),
@@ -40,7 +40,7 @@ pub enum Event {
 }
 
 // Why an event is refused.
-#[derive(Drop)]
+#[derive(Clone, Copy)]
 pub enum Refusal {
     NotWellFormed,
     TableShort,
@@ -54,7 +54,7 @@ pub enum Refusal {
 }
 
 // Whether the rules of an event are asked at all.
-#[derive(Drop)]
+#[derive(Clone, Copy)]
 pub enum Admission {
     Admitted,
     Refused(Refusal),
@@ -62,7 +62,7 @@ pub enum Admission {
 
 // What a caller goes on with.
 #[repr(C)]
-#[derive(Drop)]
+#[derive(Clone, Copy)]
 pub struct Registers {
     pub x0: u64,
     pub x1: u64,
@@ -71,7 +71,7 @@ pub struct Registers {
 }
 
 // A caller that becomes held: for which component, and where it may be resumed; both 0 where it can't be.
-#[derive(Drop)]
+#[derive(Clone, Copy)]
 pub struct Arrival {
     pub component: u64,
     pub cpu: u64,
@@ -80,7 +80,7 @@ pub struct Arrival {
 }
 
 // A CPU that is switched on, and where it starts.
-#[derive(Drop)]
+#[derive(Clone, Copy)]
 pub struct Waking {
     pub target: u64,
     pub entry: u64,
@@ -88,7 +88,7 @@ pub struct Waking {
 }
 
 // The kinds of thing that can happen, each with what it takes to do it.
-#[derive(Drop)]
+#[derive(Clone, Copy)]
 pub enum Move {
     Refuse(Refusal),
     Return(Registers),

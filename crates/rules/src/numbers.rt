@@ -6,7 +6,7 @@ ghost use Rattle.rules.specs.Numbers.{decode_of};
 use codes::{ACTIVATE, CANCEL, CPU_OFF, CPU_ON, FEATURES, GET_INFO, GET_INVENTORY, PRIME, VERSION};
 
 // A function that a caller can ask for.
-#[derive(Drop)]
+#[derive(Clone, Copy)]
 pub enum Function {
     Version,
     Features,
@@ -19,7 +19,7 @@ pub enum Function {
     CpuOn,
 }
 
-#[derive(Drop)]
+#[derive(Clone, Copy)]
 pub enum Decoded {
     Known(Function),
     Unknown,

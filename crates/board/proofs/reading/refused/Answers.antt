@@ -1,0 +1,4 @@
+use Rattle.board.proofs.reading.refused.Goals as goal
+
+pub returns : goal.returns
+returns c = rw c.blank_board.ensures
