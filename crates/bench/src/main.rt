@@ -6,14 +6,14 @@ mod words;
 ghost use Rattle.std.specs.Prelude.{◌≡◌};
 ghost use Rattle.board.specs.Packed.{read_of};
 ghost use Rattle.board.specs.declared.Verdict.TheVariants as verdict;
-ghost use Rattle.logbook.specs.Log.{checked_of, record_at, said};
-ghost use Rattle.logbook.specs.declared.Checked.TheVariants.{Records, Refused};
+ghost use Rattle.log_book.specs.Log.{checked_of, record_at, said};
+ghost use Rattle.log_book.specs.declared.Checked.TheVariants.{Records, Refused};
 ghost use Rattle.trace.specs.Turn.{turn_at};
 
 use board::{Board, Verdict};
 use given::File;
+use log_book::{Checked, Flaw};
 use log_record::LogRecord;
-use logbook::{Checked, Flaw};
 use std::env::FillError;
 use std::io;
 use std::rt::Env;
@@ -23,7 +23,7 @@ use words::{number, text};
 // One byte more than the longest description, and than the longest log: a file that fills it is too long, whatever follows.
 const BOARD_ROOM: usize = board::MOST_BYTES + 1;
 
-const LOG_ROOM: usize = logbook::MOST_BYTES + 1;
+const LOG_ROOM: usize = log_book::MOST_BYTES + 1;
 
 // The line of record k; where the record holds something else than the agent's answer, with that at the end.
 fn line(rt: &impl Print, b: Board, log: &[u8], k: usize, r: LogRecord, t: Turn) -> io::Result<()>
@@ -61,7 +61,7 @@ fn lines(rt: &impl Print, board: &[u8], b: Board, log: &[u8], n: usize) -> io::R
     let mut story = reader::opening();
     let mut k: usize = 0;
     while k < n {
-        let r = logbook::said_at(log, k);
+        let r = log_book::said_at(log, k);
         let t = trace::turned(rec, b, story, r);
         line(rt, b, log, k, r, t)?;
         let passed = t.agent;
@@ -98,7 +98,7 @@ fn bench(rt: &impl Print, board: &[u8], log: &[u8]) -> io::Result<()> {
     let verdict = read.verdict;
     let b = read.board;
     match verdict {
-        Verdict::Accepted => match logbook::check_log(log, 0) {
+        Verdict::Accepted => match log_book::check_log(log, 0) {
             Checked::Records(n) => lines(rt, board, b, log, n),
             Checked::Refused(f) => log_refused(rt, log, f),
         },

@@ -1,7 +1,7 @@
 // The bench examples of the log.
 use crate::{byte, number, text};
+use log_book::{Answer, Checked, MOST_BYTES, MOST_RECORDS};
 use log_record::{LogRecord, RECORD_BYTES};
-use logbook::{Answer, Checked, MOST_BYTES, MOST_RECORDS};
 use std::io;
 
 // The bytes of one record more than the longest log has.
@@ -81,7 +81,7 @@ fn front<'a>(s: &'a [u8], n: usize) -> &'a [u8] {
 fn checking(rt: &impl Print, log: &[u8]) -> io::Result<()> {
     text(rt, b"log of ")?;
     number(rt, log.len() as u64)?;
-    match logbook::check_log(log, 0) {
+    match log_book::check_log(log, 0) {
         Checked::Records(count) => {
             text(rt, b" bytes: records ")?;
             number(rt, count as u64)?;
@@ -99,7 +99,7 @@ fn checking(rt: &impl Print, log: &[u8]) -> io::Result<()> {
 fn asking(rt: &impl Print, log: &[u8], place: usize) -> io::Result<()> {
     text(rt, b"place ")?;
     number(rt, place as u64)?;
-    match logbook::prepared_at(log, place) {
+    match log_book::prepared_at(log, place) {
         Answer::Found(p) => {
             text(rt, b" of it: looked at ")?;
             number(rt, p.looked as u64)?;

@@ -11,7 +11,7 @@ use Rattle.basics.specs.Choice.{pick, not-both}
 use Rattle.log_record.specs.Rules.{number_of}
 use Rattle.log_record.specs.declared.Refusal.{Refusal as LogRefusal}
 use Rattle.log_record.specs.declared.Refusal.TheVariants.{TooShort, UnusedBit, Unknown, OutsideLimits, NoRoom}
-use Rattle.logbook.specs.Log.{flaw}
+use Rattle.log_book.specs.Log.{flaw}
 use Rattle.deliveries.specs.Lead.{refusal_stands, standing_stands, is_lead}
 use Rattle.deliveries.specs.Taken.{taken_of, closing_of}
 use Rattle.deliveries.specs.declared.Standing.{Standing}

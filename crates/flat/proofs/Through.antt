@@ -38,7 +38,7 @@ use Rattle.agent.specs.declared.Stepped.{Stepped}
 use Rattle.agent.proofs.Kept.{step_kept}
 use Rattle.agent.proofs.Stays.{step-board}
 use Rattle.agent.proofs.Refused.{refused-stays, never-nine}
-use Rattle.logbook.specs.Log.{blank}
+use Rattle.log_book.specs.Log.{blank}
 use Rattle.trace.specs.Logged.{logged_of}
 use Rattle.flat.specs.Answers.{event_in, answer_by, refused_answer, answer_of, caller_in, release_in, accepted_in, logged_in}
 use Rattle.flat.specs.Calls.{fresh_in, no_event, kept_with, through_of, step_of, entries_of, contexts_of}

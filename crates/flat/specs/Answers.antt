@@ -20,11 +20,11 @@ use Rattle.log_record.specs.Numbers.{refusal_in, refusal_read}
 use Rattle.log_record.specs.declared.LogRecord.{LogRecord}
 use Rattle.log_record.specs.declared.ReadRecord.{ReadRecord}
 use Rattle.log_record.specs.declared.Written.{Written}
-use Rattle.logbook.specs.Log.{blank, said}
-use Rattle.logbook.specs.Numbers.{found_in as primed_in, component_in as primed_component, Numbers as LogNumbers, numbers_of as log_numbers}
-use Rattle.logbook.specs.declared.Answer.{Answer as LogAnswer}
-use Rattle.logbook.specs.declared.Flaw.{Flaw}
-use Rattle.logbook.specs.declared.Primed.{Primed}
+use Rattle.log_book.specs.Log.{blank, said}
+use Rattle.log_book.specs.Numbers.{found_in as primed_in, component_in as primed_component, Numbers as LogNumbers, numbers_of as log_numbers}
+use Rattle.log_book.specs.declared.Answer.{Answer as LogAnswer}
+use Rattle.log_book.specs.declared.Flaw.{Flaw}
+use Rattle.log_book.specs.declared.Primed.{Primed}
 use Rattle.reader.specs.Numbers.{found_in as started_in, component_in as started_component, Numbers as StartNumbers, refused_with as not_started_with, numbers_of as start_numbers, refusal_of as cpus_refusal, place_of as cpus_place, cpus_in}
 use Rattle.reader.specs.declared.Answer.{Answer as StartAnswer}
 use Rattle.reader.specs.declared.Cpus.{Cpus}

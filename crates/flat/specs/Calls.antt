@@ -20,7 +20,7 @@ use Rattle.agent.specs.declared.Stepped.{Stepped}
 use Rattle.log_record.specs.Packed as packed
 use Rattle.log_record.specs.Rules.{number_of as log_number}
 use Rattle.log_record.specs.declared.Refusal.TheVariants as log-refusal
-use Rattle.logbook.specs.Prepared.{prepared_at}
+use Rattle.log_book.specs.Prepared.{prepared_at}
 use Rattle.reader.specs.Starts.{starts_at, powered_at, held_at}
 use Rattle.reason.specs.Explained.{explained_of}
 use Rattle.reason.specs.declared.Activate.{Activate}

@@ -5,7 +5,7 @@ use Rattle.log_record.specs.Rules.{number_of}
 use Rattle.log_record.specs.declared.LogRecord.{LogRecord}
 use Rattle.log_record.specs.declared.Refusal.{Refusal as LogRefusal}
 use Rattle.log_record.specs.declared.Refusal.TheVariants.{TooShort, UnusedBit, Unknown, OutsideLimits, NoRoom}
-use Rattle.logbook.specs.Log.{blank, flaw}
+use Rattle.log_book.specs.Log.{blank, flaw}
 use Rattle.deliveries.specs.Lead.{opened_of}
 use Rattle.deliveries.specs.Taken.{taken_of, closing_of}
 use Rattle.deliveries.specs.Numbers.{refusal_given, place_given, refusal_ended, place_ended, records_ended}

@@ -10,7 +10,7 @@ use crate::{
 use agent::{Answer, BY_ENTRY, Caller, Freed, NOBODY, Outcome, Release, Stepped, WITH_STATUS};
 use codes::{ACTIVATION_STARTED, GONE, HELD, PRIME_STARTED, RETURNED};
 use log_record::{LogRecord, RECORD_BYTES, ReadRecord, Written};
-use logbook::{Flaw, Primed};
+use log_book::{Flaw, Primed};
 use reader::{Cpus, Started};
 use rules::Registers;
 use trace::Read;
@@ -112,10 +112,10 @@ pub(crate) fn logged(e: FlatEvent, a: FlatAnswer) -> LogRecord
     let returned = a.returned;
     let freed = a.freed;
     if a.refusal != 0 {
-        return logbook::blank();
+        return log_book::blank();
     }
     match event(e) {
-        Read::Unknown => logbook::blank(),
+        Read::Unknown => log_book::blank(),
         Read::Known(event) => trace::logged(
             event,
             Answer {
@@ -168,7 +168,7 @@ pub(crate) fn record_read(r: ReadRecord) -> FlatRead
         ReadRecord::Refused(x) => FlatRead {
             refusal: log_record::number(x),
             bytes: 0,
-            rec: logbook::blank(),
+            rec: log_book::blank(),
         },
     }
 }
@@ -209,11 +209,11 @@ fn begun(s: Started) -> FlatFound
     }
 }
 
-pub(crate) fn prepared(a: logbook::Answer) -> FlatPrepared
+pub(crate) fn prepared(a: log_book::Answer) -> FlatPrepared
     ensures { result ≡ prepared_by a }
 {
     match a {
-        logbook::Answer::Found(p) => {
+        log_book::Answer::Found(p) => {
             let which = p.primed;
             FlatPrepared {
                 refusal: 0,
@@ -222,7 +222,7 @@ pub(crate) fn prepared(a: logbook::Answer) -> FlatPrepared
                 looked: p.looked,
             }
         }
-        logbook::Answer::Refused(f) => {
+        log_book::Answer::Refused(f) => {
             let x = f.refusal;
             FlatPrepared {
                 refusal: log_record::number(x),

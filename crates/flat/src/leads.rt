@@ -1,12 +1,12 @@
 // A reader of deliveries as numbers, and back, and what its functions answer.
 ghost use Rattle.std.specs.Prelude.{◌≡◌};
-ghost use Rattle.logbook.specs.Log.{flaw};
+ghost use Rattle.log_book.specs.Log.{flaw};
 ghost use Rattle.deliveries.specs.declared.Standing.TheVariants.{Refused};
 ghost use Rattle.flat.specs.Leads.{standing_number, standing_refusal, standing_place, flat_lead, refusal_in, nobodys, unrefused_in, standing_in, lead_in, lead_after, taken_by, closed_by};
 
 use crate::{FlatClosed, FlatLead, FlatTaken};
 use deliveries::{Closing, Ending, Given, Lead, Refusal, Standing, Taken};
-use logbook::Flaw;
+use log_book::Flaw;
 
 // The standings' numbers.
 const OPEN: u64 = 0;
@@ -152,7 +152,7 @@ pub(crate) fn taken(f: FlatLead, t: Taken) -> FlatTaken
             place: 0,
             used: t.used,
             given: 0,
-            rec: logbook::blank(),
+            rec: log_book::blank(),
         },
         Given::Record(r) => FlatTaken {
             lead: flat(l),
@@ -168,7 +168,7 @@ pub(crate) fn taken(f: FlatLead, t: Taken) -> FlatTaken
             place: deliveries::place(x),
             used: t.used,
             given: 0,
-            rec: logbook::blank(),
+            rec: log_book::blank(),
         },
     }
 }

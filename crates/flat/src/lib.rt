@@ -310,7 +310,7 @@ pub fn read_record(log: &[u8]) -> FlatRead
 pub fn prepared(log: &[u8], place: usize) -> FlatPrepared
     ensures { result ≡ prepared_in log.now place }
 {
-    answers::prepared(logbook::prepared_at(log, place))
+    answers::prepared(log_book::prepared_at(log, place))
 }
 
 // The component whose rendezvous activation starts at a call made at a place of a log.

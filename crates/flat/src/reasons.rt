@@ -6,7 +6,7 @@ ghost use Rattle.flat.specs.Answers.{why_with, why_by};
 
 use crate::FlatWhy;
 use history::DEPARTS;
-use logbook::Flaw;
+use log_book::Flaw;
 use reason::{Explained, Reason};
 
 fn because(x: Reason) -> FlatWhy

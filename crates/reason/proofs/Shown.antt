@@ -20,7 +20,7 @@ use Rattle.board.specs.declared.Board.{Board}
 use Rattle.board_record.specs.WellFormed.{well_formed}
 use Rattle.board_record.specs.declared.Record.{Record}
 use Rattle.board_record.proofs.Clauses.{told, on-set, held_on}
-use Rattle.logbook.specs.Log.{most_records, log_bytes}
+use Rattle.log_book.specs.Log.{most_records, log_bytes}
 use Rattle.rules.specs.Moves.{rows_for}
 use Rattle.rules.specs.declared.Event.{Event}
 use Rattle.rules.specs.declared.Event.TheVariants as event

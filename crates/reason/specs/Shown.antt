@@ -5,7 +5,7 @@ use Rattle.cpuset.specs.Set.{has_of, without_of, less_of}
 use Rattle.cpuset.specs.declared.CpuSet.{CpuSet}
 use Rattle.board.specs.declared.Board.{Board}
 use Rattle.board_record.specs.declared.Record.{Record}
-use Rattle.logbook.specs.Log.{most_records, log_bytes}
+use Rattle.log_book.specs.Log.{most_records, log_bytes}
 use Rattle.rules.specs.Moves.{rows_for}
 use Rattle.rules.specs.declared.Event.{Event}
 use Rattle.rules.specs.declared.Event.TheVariants as event

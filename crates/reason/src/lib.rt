@@ -14,7 +14,7 @@ use board_record::Record;
 use codes::{ACTIVATE, Call};
 use cpuset::CpuSet;
 use history::Ended;
-use logbook::Flaw;
+use log_book::Flaw;
 use rules::{Event, Refusal};
 
 // An ACTIVATE: the CPU that makes it, and its registers but X0.

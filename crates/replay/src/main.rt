@@ -2,11 +2,11 @@
 #![tactic(auto)]
 
 ghost use Rattle.std.specs.Prelude.{◌≡◌, ◌≤◌, length};
-ghost use Rattle.logbook.specs.Log.{past_of, checked_of};
-ghost use Rattle.logbook.specs.declared.Checked.TheVariants.{Records, Refused};
-ghost use Rattle.logbook.specs.Prepared.{prepared_of};
+ghost use Rattle.log_book.specs.Log.{past_of, checked_of};
+ghost use Rattle.log_book.specs.declared.Checked.TheVariants.{Records, Refused};
+ghost use Rattle.log_book.specs.Prepared.{prepared_of};
 
-use logbook::{Checked, Flaw, MOST_BYTES, Prepared, Primed};
+use log_book::{Checked, Flaw, MOST_BYTES, Prepared, Primed};
 use std::io;
 use std::io::Read;
 
@@ -48,7 +48,7 @@ fn lines(rt: &impl Print, log: &[u8], n: usize) -> io::Result<()>
     line(rt, log, 0, p)?;
     let mut k: usize = 0;
     while k < n {
-        p = logbook::prepared_next(log, k, p);
+        p = log_book::prepared_next(log, k, p);
         k += 1;
         line(rt, log, k, p)?;
     }
@@ -68,7 +68,7 @@ fn refused(rt: &impl Print, log: &[u8], f: Flaw) -> io::Result<()>
 }
 
 fn replay(rt: &impl Print, log: &[u8]) -> io::Result<()> {
-    match logbook::check_log(log, 0) {
+    match log_book::check_log(log, 0) {
         Checked::Records(n) => {
             text(rt, b"place primed looked\n")?;
             lines(rt, log, n)

@@ -8,7 +8,7 @@ ghost use Rattle.reason.specs.Explained.{explained_of};
 
 use given::{File, Numeral};
 use history::DEPARTS;
-use logbook::Flaw;
+use log_book::Flaw;
 use reason::{Activate, Explained};
 use std::env::FillError;
 use std::io;
@@ -18,7 +18,7 @@ use words::{number, text};
 // One byte more than the longest description, and than the longest log: a file that fills it is too long, whatever follows.
 const BOARD_ROOM: usize = board::MOST_BYTES + 1;
 
-const LOG_ROOM: usize = logbook::MOST_BYTES + 1;
+const LOG_ROOM: usize = log_book::MOST_BYTES + 1;
 
 fn log_refused(rt: &impl Print, refusal: u64, place: usize) -> io::Result<()> {
     text(rt, b"log refused ")?;

@@ -3,8 +3,8 @@ use Prim.Native.Nat.{◌-◌, ◌≤◌}
 use native.Mathlib.Omega.{arith}
 use mathlib.Core.Path.{◌≡◌, ap, ◌∙◌}
 use borrow.Author.Rules.{rules}
-use Rattle.logbook.specs.Log.{past_of}
-use Rattle.logbook.proofs.Laws.{checked-sound}
+use Rattle.log_book.specs.Log.{past_of}
+use Rattle.log_book.proofs.Laws.{checked-sound}
 use Rattle.reader.specs.Story.{story_of}
 use Rattle.reader.proofs.Laws.{story-on}
 use Rattle.trace.specs.Turn.{replayed_to, turn_at}

@@ -4,15 +4,15 @@ use Rattle.bitfield.proofs.Laws.{refused, too_wide, past_end, room, written-insi
 use Rattle.bitfield.proofs.write.Goals as goal
 
 pub returns-then-n-gt-WIDEST_BYTES : goal.returns-then-n-gt-WIDEST_BYTES
-returns-then-n-gt-WIDEST_BYTES c = let both_ = refused _ _ _ _ (too_wide _ _ _ c.if-n-gt-WIDEST_BYTES.true) in record { value = both_.0; s_after = both_.1 }
+returns-then-n-gt-WIDEST_BYTES c = let facts = refused _ _ _ _ (too_wide _ _ _ c.if-n-gt-WIDEST_BYTES.true) in record { value = facts.0; s_after = facts.1 }
 
 pub returns-then-k-s : goal.returns-then-k-s
 returns-then-k-s c = let a = c.args in
-    let both_ = refused _ _ _ _ (past_end a.s.now a.k a.n (omega arith)) in record { value = both_.0; s_after = both_.1 }
+    let facts = refused _ _ _ _ (past_end a.s.now a.k a.n (omega arith)) in record { value = facts.0; s_after = facts.1 }
 
 pub returns-then-n-s : goal.returns-then-n-s
 returns-then-n-s c = let a = c.args in
-    let both_ = refused _ _ _ _ (past_end a.s.now a.k a.n (omega arith)) in record { value = both_.0; s_after = both_.1 }
+    let facts = refused _ _ _ _ (past_end a.s.now a.k a.n (omega arith)) in record { value = facts.0; s_after = facts.1 }
 
 pub returns : goal.returns
 returns c =

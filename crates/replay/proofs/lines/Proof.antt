@@ -3,10 +3,10 @@ use Prim.Native.Nat.{◌+◌, ◌-◌, ◌≤◌}
 use native.Mathlib.Omega.{arith}
 use mathlib.Core.Path.{◌≡◌, refl, ◌∙◌}
 use borrow.Author.Rules.{rules}
-use Rattle.logbook.specs.Log.{past_of}
-use Rattle.logbook.specs.Prepared.{prepared_of}
-use Rattle.logbook.proofs.Laws.{checked-sound}
-use Rattle.logbook.proofs.Walk.{prepared-next}
+use Rattle.log_book.specs.Log.{past_of}
+use Rattle.log_book.specs.Prepared.{prepared_of}
+use Rattle.log_book.proofs.Laws.{checked-sound}
+use Rattle.log_book.proofs.Walk.{prepared-next}
 use Rattle.replay.proofs.lines.Statement.{statement}
 use Rattle.replay.proofs.lines.Tie as tie
 

@@ -1,4 +1,4 @@
-use Rattle.logbook.specs.Numbers.{found_with, refused_with}
+use Rattle.log_book.specs.Numbers.{found_with, refused_with}
 use Rattle.flat.specs.Answers.{prepared_with}
 use borrow.Author.Rules.{rules}
 use Rattle.flat.proofs.answers.prepared.Statement.{statement}

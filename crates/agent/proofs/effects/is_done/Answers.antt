@@ -1,0 +1,11 @@
+use borrow.Author.Tests.{eq-eqb, ne_eqb}
+use Rattle.agent.specs.Perform.{is_done}
+use Rattle.agent.proofs.effects.is_done.Goals as goal
+
+pub returns-then-code-eq0 : goal.returns-then-code-eq0
+unfolding is_done
+returns-then-code-eq0 c = rw (eq-eqb _ _ c.if-code-eq0.true)
+
+pub returns-else-code-eq0 : goal.returns-else-code-eq0
+unfolding is_done
+returns-else-code-eq0 c = rw (ne_eqb _ _ c.if-code-eq0.false)
