@@ -7,7 +7,8 @@ use native.Mathlib.Omega.{arith}
 use lib.Dec.{leb}
 use lib.ListN.{length, set, length-set}
 use borrow.Author.Tests.{lt-ltb, leb-true, le-leb}
-use Rattle.basics.specs.Choice.{pick, pick-cases, not-both, and_left, and_right}
+use Rattle.basics.specs.Choice.{pick, not-both, and_left, and_right}
+use Rattle.basics.proofs.Choice.{pick-cases}
 use Rattle.codes.specs.declared.Call.{Call}
 use Rattle.cpuset.specs.Set.{room, has_of, none_of, below_of, with_of, without_of}
 use Rattle.cpuset.specs.Laws.{has_room, has-none, has-with, has-without, has-below, set_below, set-without, same-eq, within_has, within-of, without_other, with-some, without-some, with-within}

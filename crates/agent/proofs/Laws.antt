@@ -9,7 +9,8 @@ use lib.Dec.{eqb, leb}
 use lib.ListN.{length, get_or, set}
 use lib.Seq.{get_or-set_same, get_or-set_other}
 use borrow.Author.Tests.{eqb-true, eqb-false}
-use Rattle.basics.specs.Choice.{pick, pick-cases, not-both, and_left, and_right, or_cases}
+use Rattle.basics.specs.Choice.{pick, not-both, and_left, and_right, or_cases}
+use Rattle.basics.proofs.Choice.{pick-cases}
 use Rattle.basics.specs.Every.{all_below, all-at, all_of}
 use Rattle.basics.specs.Order.{eq-cases}
 use Rattle.codes.specs.Codes.{by_reset}

@@ -4,7 +4,7 @@ use Prim.Native.Nat.{ℕ}
 use mathlib.Core.Path.{◌≡◌, refl, ◌∙◌}
 use mathlib.Core.List.{List, [], ◌∷◌}
 use mathlib.Core.Logic.{◌⊎◌, inl, inr, ⊎_elim}
-use Rattle.basics.specs.Choice.{pick-cases}
+use Rattle.basics.proofs.Choice.{pick-cases}
 use Rattle.board.specs.Description.{most_cpus}
 use Rattle.board_record.specs.declared.Record.{Record}
 use Rattle.rules.specs.Decide.{decide_of}

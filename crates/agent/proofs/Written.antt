@@ -8,7 +8,8 @@ use native.Mathlib.Nat.{not-suc-le-zero}
 use native.Mathlib.Omega.{arith}
 use lib.Seq.{set_out, get_or-set_same, get_or-set_other}
 use lib.ListN.{length, get_or, set, length-set}
-use Rattle.basics.specs.Choice.{pick, yes, no, pick-cases}
+use Rattle.basics.specs.Choice.{pick}
+use Rattle.basics.proofs.Choice.{yes, no, pick-cases}
 use Rattle.basics.specs.Order.{lt-cases, last-cases}
 use Rattle.cpuset.specs.Set.{has_of}
 use Rattle.cpuset.specs.Laws.{has-out}

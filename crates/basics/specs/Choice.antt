@@ -1,19 +1,12 @@
--- A choice by a test, and how a proof goes along one. Assumes nothing.
+-- A choice by a test, and laws of tests. Assumes nothing.
 use Rattle.std.specs.Prelude.{ℕ, ◌≡◌, refl, Bool, true, false, ◌&&◌, ◌||◌}
-use Rattle.std.proofs.Common.{sym, subst, ◌∙◌, true≢false, arith}
+use Rattle.std.proofs.Common.{sym, ◌∙◌, true≢false, arith}
 use Rattle.std.proofs.Math.Bool.{and-eq-true_iff}
 
 -- the first where the test holds, else the second
 abbrev pub pick : {A : Type 0} → Bool → A → A → A
 pick true a b = a
 pick false a b = b
-
--- a rule that is a nest of picks is answered with a word for each test on the way: `yes` where it held, `no` where it failed
-pub yes : {A : Type 0} {b : Bool} {x z : A} (y : A) → b ≡ true → z ≡ x → z ≡ pick b x y
-yes {A} {b} {x} {z} y e p = subst (λ (t : Bool). z ≡ pick t x y) (sym e) p
-
-pub no : {A : Type 0} {b : Bool} {y z : A} (x : A) → b ≡ false → z ≡ y → z ≡ pick b x y
-no {A} {b} {y} {z} x e p = subst (λ (t : Bool). z ≡ pick t x y) (sym e) p
 
 -- what a call promises of its flag, and what the branch says of it
 pub by : {f b v : Bool} → f ≡ b → f ≡ v → b ≡ v
@@ -22,11 +15,6 @@ by p q = sym p ∙ q
 -- what is so of every answer that the promise names is so of this one, beside the equation: the two clauses of a promise
 pub and_so : {A : Type 0} {P : A → Type 0} {x d : A} → ((y : A) → y ≡ d → P y) → x ≡ d → (x ≡ d) × P x
 and_so f e = (e, f _ e)
-
--- what holds of both ways holds of the choice, each with its test at hand
-pub pick-cases : {A : Type 0} (P : A → Type 0) (b : Bool) (x y : A) → (b ≡ true → P x) → (b ≡ false → P y) → P (pick b x y)
-pick-cases P true x y t f = t refl
-pick-cases P false x y t f = f refl
 
 pub not-both : {b : Bool} → b ≡ true → b ≡ false → ⊥
 not-both p q = true≢false (sym p ∙ q)

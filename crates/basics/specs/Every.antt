@@ -2,7 +2,7 @@
 use Rattle.std.specs.Prelude.{ℕ, zero, suc, ◌+◌, ◌<◌, ◌≤◌, ◌≡◌, refl, Bool, true, false, ◌&&◌, List, [], ◌∷◌, ◌++◌, eqb, ltb}
 use Rattle.std.proofs.Common.{sym, ap, ◌∙◌, eqb-true, ltb-true, add-one, arith, not-suc-le-zero, le_antisymm}
 use Rattle.std.proofs.Math.Bool.{and-false, and-true}
-use Rattle.basics.specs.Choice.{pick, pick-cases, not-both, and_left, and_right}
+use Rattle.basics.specs.Choice.{pick, not-both, and_left, and_right}
 use Rattle.basics.specs.Order.{last-cases}
 
 unfoldable pub all_below : ℕ → (ℕ → Bool) → Bool
@@ -69,18 +69,10 @@ abbrev pub one_of : ℕ → List ℕ → Bool
 one_of n [] = false
 one_of n (k ∷ ks) = pick (eqb n k) true (one_of n ks)
 
--- and then it is below what they are all below
+-- and all are below a number
 abbrev pub all_under : ℕ → List ℕ → Bool
 all_under m [] = true
 all_under m (k ∷ ks) = pick (ltb k m) (all_under m ks) false
-
-pub one-under : (n m : ℕ) (ks : List ℕ) → all_under m ks ≡ true → one_of n ks ≡ true → n < m
-one-under n m [] = λ u e. absurd (not-both e refl)
-one-under n m (k ∷ ks) =
-    pick-cases (λ (t : Bool). t ≡ true → one_of n (k ∷ ks) ≡ true → n < m) (ltb k m) (all_under m ks) false
-    (λ l u. pick-cases (λ (t : Bool). t ≡ true → n < m) (eqb n k) true (one_of n ks)
-    (λ q h. let s = eqb-true n k q in let b = ltb-true k m l in omega arith) (λ q. one-under n m ks u))
-    (λ l u. absurd (not-both u refl))
 
 -- every entry of a list of examples holds
 unfoldable pub all_hold : List Bool → Bool

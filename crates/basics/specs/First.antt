@@ -2,7 +2,7 @@
 -- one of them to be the first. Assumes nothing.
 use Rattle.std.specs.Prelude.{ℕ, zero, suc, ◌<◌, ◌≡◌, refl, Bool, true, false, List, [], ◌∷◌, length, get_or}
 use Rattle.std.proofs.Common.{sym, ap, subst, ◌∙◌, arith, not-suc-le-zero, le_of_suc-le-suc}
-use Rattle.basics.specs.Choice.{pick, yes, no}
+use Rattle.basics.specs.Choice.{pick}
 
 -- an answer, and whether it applies
 abbrev pub RowOf : Type 0 → Type 0
@@ -27,14 +27,6 @@ pub record IsFirst {A : Type 0} (past : RowOf A) (rows : List (RowOf A)) (i : �
   pub none_before : (j : ℕ) → j < i → (get_or rows j past).1 ≡ false
 
 module _ {A : Type 0} (past : RowOf A) where
-  -- and so it gives the answer
-  pub first-given : (other : A) (rows : List (RowOf A)) (i : ℕ) → IsFirst past rows i → first_in other rows ≡ (get_or rows i past).0
-  first-given other [] i f = absurd (not-suc-le-zero f.there)
-  first-given other (row ∷ rows) zero f = sym (yes _ f.applies refl)
-  first-given other (row ∷ rows) (suc i) f =
-      sym (no _ (f.none_before zero (omega arith)) refl)
-      ∙ first-given other rows i (record { there = le_of_suc-le-suc f.there; applies = f.applies; none_before = λ j l. f.none_before (suc j) (omega arith) })
-
   -- where a row applies, one is the first
   pub record Some-first (rows : List (RowOf A)) : Type 0 where
     pub at : ℕ
@@ -58,12 +50,3 @@ module _ {A : Type 0} (past : RowOf A) where
   first_found [] n l h = absurd (not-suc-le-zero l)
   first_found (row ∷ rows) zero l h = first-here row rows h
   first_found (row ∷ rows) (suc n) l h = first-of row rows (λ e. first_found rows n (le_of_suc-le-suc l) h) row.1 refl
-
-  -- where a key tells the answers of the rows apart, and one applies, the row that has the given answer's key is the first
-  pub first-known : (key : A → ℕ) (other : A) (rows : List (RowOf A))
-      → ((i j : ℕ) → i < length rows → j < length rows → key (get_or rows i past).0 ≡ key (get_or rows j past).0 → i ≡ j)
-      → (n : ℕ) → n < length rows → (get_or rows n past).1 ≡ true
-      → (i : ℕ) → i < length rows → key (first_in other rows) ≡ key (get_or rows i past).0 → IsFirst past rows i
-  first-known key other rows apart n l h i k e =
-      let f = first_found rows n l h in
-      subst (IsFirst past rows) (apart f.at i f.first.there k (ap key (sym (first-given other rows f.at f.first)) ∙ e)) f.first

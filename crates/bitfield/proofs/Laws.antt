@@ -11,7 +11,7 @@ use lib.Pow.{pow_mono}
 use mathlib.Core.Bool.{Bool, true, false}
 use lib.Dec.{leb}
 use borrow.Author.Tests.{le-leb, lt-leb}
-use Rattle.basics.specs.Choice.{pick-cases}
+use Rattle.basics.proofs.Choice.{pick-cases}
 use Rattle.basics.specs.Places.{firsts, length-firsts, get_or-firsts, in_turn, in_turn-more}
 use Rattle.basics.specs.Order.{lt-cases}
 use Rattle.bitfield.specs.Bits.{AreBytes, widest, widest_bytes, bit_at, value_at, field_at, value_in, bytes, put, room_for, written}

@@ -1,5 +1,6 @@
 // Fields of a slice of bytes, most significant bit first: reading one of up to 64 bits anywhere, writing whole bytes.
 #![tactic(auto)]
+
 ghost use Rattle.std.specs.Prelude.{◌≡◌, ◌+◌, ◌-◌, ◌*◌, ◌/◌, ◌%◌, ◌^◌, ◌<◌, ◌≤◌, length, get_or};
 ghost use Rattle.basics.specs.Places.{firsts};
 ghost use Rattle.bitfield.specs.Bits.{widest, widest_bytes, value_at, field_at, value_in, room_for, written, put, bytes};

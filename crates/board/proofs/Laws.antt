@@ -8,7 +8,8 @@ use native.Mathlib.Omega.{arith}
 use lib.Dec.{leb, ltb}
 use lib.ListN.{length, take, drop, length-append}
 use borrow.Author.Tests.{leb-true, le-leb, ltb-true, ltb-false, lt-ltb, le-ltb, eqb-true, eqb-false}
-use Rattle.basics.specs.Choice.{pick-cases, yes, no, not-both, and_left, and_right, never}
+use Rattle.basics.specs.Choice.{not-both, and_left, and_right, never}
+use Rattle.basics.proofs.Choice.{pick-cases, yes, no}
 use Rattle.basics.specs.Places.{in_turn, length-in_turn}
 use Rattle.bitfield.specs.Bits.{bytes, put}
 use Rattle.bitfield.specs.Layout.{join, Fit}

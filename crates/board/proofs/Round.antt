@@ -10,7 +10,8 @@ use lib.Dec.{eqb}
 use lib.ListN.{length, get_or, take, drop, length-append, length-drop, take-append-drop}
 use lib.Seq.{take_all, take-add, drop-drop, get_or-drop}
 use borrow.Author.Tests.{eqb-true, eq-eqb, le-leb}
-use Rattle.basics.specs.Choice.{yes, and_left, and_right, never}
+use Rattle.basics.specs.Choice.{and_left, and_right, never}
+use Rattle.basics.proofs.Choice.{yes}
 use Rattle.basics.specs.Every.{all_below, all_of, all-at, all_same}
 use Rattle.basics.specs.Places.{firsts, length-table, in_turn, length-in_turn, in_turn-same, in_turn-parts, firsts_same, firsts-part, firsts-all, get_or-table, get_d_past, length-firsts}
 use Rattle.bitfield.specs.Bits.{AreBytes, value_at, bytes}

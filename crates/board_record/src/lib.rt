@@ -1,5 +1,6 @@
 // The board's record: what it holds, how it starts, and when it is well formed.
 #![tactic(auto)]
+
 mod standing;
 
 ghost use Rattle.std.specs.Prelude.{◌≡◌};

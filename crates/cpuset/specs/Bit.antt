@@ -6,7 +6,8 @@ use Rattle.std.proofs.Math.Dec.{eqb-zero-suc, eqb-suc-zero, eqb-suc-suc, leb-suc
 use Rattle.std.specs.Int.Bits.{bit_and, bit_or, bit_xor, xor_add_and}
 use Rattle.std.proofs.lemmas.Nat.{and_shr, or_shr, xor_shr, and_mod, or_mod, xor_mod, and_le_l, and_le_r}
 use Rattle.std.proofs.lemmas.Bool.{eqb-false}
-use Rattle.basics.specs.Choice.{pick, pick-cases}
+use Rattle.basics.specs.Choice.{pick}
+use Rattle.basics.proofs.Choice.{pick-cases}
 
 -- is bit j of x set
 unfoldable pub bit : ℕ → ℕ → Bool

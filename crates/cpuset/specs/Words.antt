@@ -6,7 +6,8 @@ use Rattle.std.proofs.Math.ListN.{get_or-eq_default}
 use Rattle.std.proofs.Math.Pow.{pow-lt, ones_lt}
 use Rattle.std.specs.Int.Count.{ones, ones_step}
 use Rattle.std.proofs.lemmas.Bool.{eqb-false}
-use Rattle.basics.specs.Choice.{pick, pick-cases}
+use Rattle.basics.specs.Choice.{pick}
+use Rattle.basics.proofs.Choice.{pick-cases}
 use Rattle.basics.specs.Order.{lt-cases, same-ltb}
 use Rattle.basics.specs.Places.{firsts, length-firsts, get_or-firsts, firsts-front}
 use Rattle.cpuset.specs.Bit.{bit, bit-first, bit-rest, bit-zero, bit-pow, bit-ones, digit, same_bits}

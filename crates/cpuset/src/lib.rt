@@ -1,5 +1,6 @@
 // A set of CPU numbers, by value. A number that there is no room for is in no set, and to add it or take it out changes none.
 #![tactic(auto)]
+
 ghost use Rattle.std.specs.Prelude.{◌≡◌};
 ghost use Rattle.cpuset.specs.Set.{none_of, has_of, only_of, with_of, without_of, union_of, less_of, same_of, below_of, within_of, count_of};
 

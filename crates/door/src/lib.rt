@@ -1,5 +1,6 @@
 // The thin door: one event on a record that the host lends. It is stepped by value, and the next record is stored.
 #![tactic(auto)]
+
 ghost use Rattle.std.specs.Prelude.{◌≡◌, length};
 ghost use Rattle.agent.specs.Step.{step_of, entries_of, contexts_of};
 ghost use Rattle.agent.specs.Numbers.{said_of, Answers};

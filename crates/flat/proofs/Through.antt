@@ -8,7 +8,8 @@ use lib.Dec.{eqb, ltb}
 use lib.ListN.{length, get_or}
 use borrow.Author.Tests.{eqb-true}
 use native.Mathlib.Omega.{arith}
-use Rattle.basics.specs.Choice.{pick, pick-cases, refuted, and_left, and_right}
+use Rattle.basics.specs.Choice.{pick, refuted, and_left, and_right}
+use Rattle.basics.proofs.Choice.{pick-cases}
 use Rattle.basics.specs.Places.{length-firsts}
 use Rattle.board.specs.Description.{most_components}
 use Rattle.board.specs.Packed.{flag_in, read_of, accepted}

@@ -9,8 +9,8 @@ use crate::{
 };
 use agent::{Answer, BY_ENTRY, Caller, Freed, NOBODY, Outcome, Release, Stepped, WITH_STATUS};
 use codes::{ACTIVATION_STARTED, GONE, HELD, PRIME_STARTED, RETURNED};
-use log_record::{LogRecord, RECORD_BYTES, ReadRecord, Written};
 use log_book::{Flaw, Primed};
+use log_record::{LogRecord, RECORD_BYTES, ReadRecord, Written};
 use reader::{Cpus, Started};
 use rules::Registers;
 use trace::Read;

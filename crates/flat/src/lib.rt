@@ -1,5 +1,6 @@
 // What crosses to a host: numbers, arrays of numbers, and structs of these. Whatever they hold, each gets a stated answer.
 #![tactic(auto)]
+
 mod answers;
 mod leads;
 mod reasons;

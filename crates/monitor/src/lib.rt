@@ -1,5 +1,6 @@
 // What a host links: C functions with the prefix lfa_. host/lfa.h says them in C.
 #![tactic(auto)]
+
 ghost use Rattle.std.specs.Prelude.{◌≡◌, length};
 ghost use Rattle.flat.specs.Calls.{abi_of, described_of, description_of, read_in, fresh_in, step_of, entries_of, contexts_of, written_of, buffer_of, prepared_in, started_in, powered_in, held_in, why_in};
 ghost use Rattle.flat.specs.Leads.{opened_in, taken_in, closed_in};

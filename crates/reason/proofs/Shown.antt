@@ -11,7 +11,8 @@ use lib.ListN.{length, get_or, get_or-map}
 use borrow.Author.Tests.{eqb-true, eqb-false, eq-eqb, not-true}
 use Rattle.basics.specs.Choice.{pick, refuted, not-both, both, never}
 use Rattle.basics.specs.Every.{all_below, all-at}
-use Rattle.basics.specs.First.{first_of, IsFirst, first-given, first-known}
+use Rattle.basics.specs.First.{first_of, IsFirst}
+use Rattle.basics.proofs.First.{first-given, first-known}
 use Rattle.cpuset.specs.Set.{has_of, none_of, with_of, without_of, less_of, same_of}
 use Rattle.cpuset.specs.Laws.{has-less, set-less, set-without, some-has, without-self, without_other}
 use Rattle.cpuset.specs.declared.CpuSet.{CpuSet}

@@ -1,5 +1,6 @@
 // Why an ACTIVATE, made at a place of a log, is refused, held or started: the first rule of document 01 that applies.
 #![tactic(auto)]
+
 mod ruling;
 
 ghost use Rattle.std.specs.Prelude.{◌≡◌};

@@ -7,7 +7,8 @@ use mathlib.Core.Logic.{⊎_elim}
 use native.Mathlib.Omega.{arith}
 use lib.Dec.{eqb, leb, ltb}
 use borrow.Author.Tests.{leb-false, ltb-false, eqb-true, eqb-false, not-true}
-use Rattle.basics.specs.Choice.{pick, pick-cases, not-both, refuted, and_left, and_right, never}
+use Rattle.basics.specs.Choice.{pick, not-both, refuted, and_left, and_right, never}
+use Rattle.basics.proofs.Choice.{pick-cases}
 use Rattle.codes.specs.Numbers.{version_number, cancel_number, on_number, function_number}
 use Rattle.codes.specs.Codes.{is_prime_code}
 use Rattle.codes.specs.declared.Call.{Call}

@@ -6,7 +6,8 @@ use mathlib.Core.Bool.{Bool, true, false, not, ◌&&◌}
 use mathlib.Core.List.{[], ◌∷◌}
 use lib.Dec.{eqb, leb, ltb}
 use borrow.Author.Tests.{eq-eqb, eqb-false}
-use Rattle.basics.specs.Choice.{pick, pick-cases}
+use Rattle.basics.specs.Choice.{pick}
+use Rattle.basics.proofs.Choice.{pick-cases}
 use Rattle.basics.specs.First.{first_of}
 use Rattle.codes.specs.Numbers.{version_number, cancel_number, function_number}
 use Rattle.codes.specs.Codes.{is_prime_code}

@@ -3,7 +3,8 @@ use Prim.Native.Nat.{ℕ}
 use mathlib.Core.Path.{◌≡◌, refl, ap, ◌∙◌}
 use lib.Dec.{eqb}
 use borrow.Author.Tests.{eqb-true}
-use Rattle.basics.specs.Choice.{pick, pick-cases, never}
+use Rattle.basics.specs.Choice.{pick, never}
+use Rattle.basics.proofs.Choice.{pick-cases}
 use Rattle.rules.specs.Numbers.{number_for, decode_of}
 use Rattle.rules.specs.declared.numbers.Function.{Function}
 use Rattle.rules.specs.declared.numbers.Function.TheVariants as function

@@ -1,5 +1,6 @@
 // The rules: what each event calls for, by the board's record. Nothing is changed here.
 #![tactic(auto)]
+
 mod calls;
 mod cells;
 mod numbers;

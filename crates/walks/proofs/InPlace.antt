@@ -10,11 +10,11 @@ use mathlib.Core.List.{[], ◌∷◌, ◌++◌, List}
 use lib.ListN.{length}
 use seplogic.Ra.Ura.{Ura}
 use base.Fraction.{full_share}
-use mir.Syntax.{Name, Sym, Ty, ty_int, ty_ref, ty_struct, tnil, tcons, w64, mut, named, erased, Lifetime, deref, field, place, copy, rv_opd, addr_of, aggregate, Body as Code, seq, assign, call, return, value_local, Local, local, Fn}
+use mir.Syntax.{Callee, Sym, Ty, ty_int, ty_ref, ty_struct, tnil, tcons, w64, mut, named, erased, Lifetime, deref, field, place, copy, rv_opd, addr_of, aggregate, Body as Code, seq, assign, call, return, value_local, Local, local, Fn}
 use lib.Dec.{T as Holds}
 use mir.Val.{Val, vptr, vstruct, of_list, has_ty, WT}
 use base.Logic.{SProp, ent, sep, emp, via, fst∗, id⊢}
-use base.Fml.{GName, Lft, Share, ftrue, flft, fobs, fbor, fat}
+use base.Fml.{Fml, GName, Lft, Share, ftrue, fsep, flft, fobs, fbor, fat}
 use prog.Memory.{up, align, size}
 use prog.Model.{Model}
 use prog.Routine.{Routine, Env}
@@ -23,23 +23,25 @@ use types.Logic.{Logic, sem}
 use contract.Monad.{fact}
 use contract.Lifetimes.{Lfts}
 use contract.Running.{Running, tables, tables_of}
-use types.Kit.{Go, ‵, raw, ◌⊛◌, some, later, ◌$◌, ◌∵◌, !, qed, by, move, keep, drop, use1, use3, split, join, pick, rewrite, fsplit, fsplit3, fjoin, fjoin3, feq_i, feq_l, suffices, frame, await, done}
-use types.Run.{look, look_raw, store_raw, init, forget, stop, hop, fld, from, load, addr, of_opd, and_then, no_more, assigns, land, returns, enter, alloc1, alloc0, params1, pass1, pass0, free1, free0}
-use types.Part.{agg, whole, sub, look_in, Part}
-use types.SemTy.{Body}
+use types.Kit.{Go, ‵, raw, ◌⊛◌, some, later, ◌$◌, ◌∵◌, !, qed, by, move, keep, drop, use1, use3, split, join, pick, fsplit, fsplit3, fjoin, fjoin3, feq_i, feq_l, suffices, frame, await, done}
+use types.Run.{look_raw, store_raw, stop, hop, fld, from, load, addr, of_opd, and_then, no_more, assigns, returns, enter}
+use types.ByLocal.{alloc_all, pass_all, free_all, look_at, look_in_at, get, get_in, through, sets, lands_as}
+use types.Part.{agg, whole, sub, Part}
+use types.Hole.{Holey}
+use types.SemTy.{Arr, Body}
 use sound.WpLaws.{FmC, fm_of, WpFn-mono}
 use denote.Exit.{yes}
-use denote.RattleType.{RattleType, owns}
-use denote.Laws.{Is, Typed, shows}
+use denote.RattleType.{RattleType, Denots, owns}
+use denote.Laws.{Is, Typed, Spells, valss, shows}
 use denote.Memory.{mem, pointee}
 use denote.Builtin.{u64}
 use denote.Slice.{slice_ty, slice_val, mut_slice_vals, mut_slice_Tells, MutSlice, Room, finally}
 use denote.Ref.{MutBor, MutRef, mut_vals, mut_Tells}
 use denote.Signature.{plain, mut_ref_to, mut_slice_of}
 use denote.Steps.{only, opens, closes, owned, peeks, heard, nothing}
-use denote.Struct.Declared.{Declared}
-use denote.Struct.Declared as declared
-use denote.Struct.Struct.{to_tys}
+use denote.Struct.Field.{Field, rows}
+use denote.Struct.Recorded.{Recorded}
+use denote.Struct.Struct.{to_tys, Shape, Struct, AreAll, tells_all, Struct-Tells, Struct-Lawful}
 use denote.Struct.Steps.{spelt}
 use denote.Struct.Laws as LL
 use denote.Triple.Statement.{Contract, Triple}
@@ -47,7 +49,7 @@ use denote.Triple.Call.{calls_at}
 use denote.Triple.Entry.{Args, on_entry}
 use denote.Triple.Spec.{Meets, triple_of}
 use denote.Triple.Table.{entered, cited}
-use denote.Triple.Walked.{Stays, stay_ref, stay_none, gave_slice, walk_of, AllGo, Goes-none, Goes-ref, Goes-gave_slice, ends_at, walked, walk_Meets}
+use denote.Triple.Walked.{Stays, stay_ref, stay_none, gave_slice, walk_of, on_exit, AllGo, Goes-none, Goes-ref, Goes-gave_slice, ends_at, walked, walk_Meets}
 use denote.Triple.Clauses.{Ended, Clauses, Lasts, closing, ensured, lasts, at_exit}
 use Rattle.basics.proofs.Walk.{stands, beside}
 use Rattle.walks.proofs.Plain as P
@@ -77,7 +79,7 @@ pub record Door : Type 2 where
   pub next : Pair → rec.field.Value
   pub said : Pair → answer.field.Value
   pub pair_one : (x y : Pair) → laid rec answer (next x) (said x) ≡ laid rec answer (next y) (said y) → x ≡ y
-  pub step : Name
+  pub step : Callee
   pub step_of : rec.field.Value → event.field.Value → ℕ → ℕ → Pair
   pub entries_of : rec.field.Value → event.field.Value → List ℕ → List ℕ → List ℕ
   pub contexts_of : rec.field.Value → event.field.Value → List ℕ → List ℕ → List ℕ
@@ -111,21 +113,23 @@ module _ (D : Door) where
   ans-val = P.val D.answer
 
   -- ---- what the step returns: its machine value is a struct of two, and each part's relation holds
-  abbrev pair : Declared
-  pair = record {
-    name = D.pair-name;
-    args = [];
-    parts = D.rec.field ∷ D.answer.field ∷ [];
-    D = D.Pair;
-    to = λ r. laid D.rec D.answer (D.next r) (D.said r);
-    to_one = D.pair_one;
-  }
+  abbrev pair-parts : List Field
+  pair-parts = D.rec.field ∷ D.answer.field ∷ []
 
-  abbrev pair-laws : LL.Laws pair
+  abbrev pair-laws : LL.Lawss pair-parts
   pair-laws = (D.rec.laws, (D.answer.laws, tt))
 
+  abbrev pair-shape : Shape
+  pair-shape = record { name = D.pair-name; args = []; types = []; fields = rows pair-parts }
+
+  abbrev pair-spells : Spells (rows pair-parts)
+  pair-spells = LL.spells pair-parts pair-laws
+
+  abbrev pair-to : D.Pair → Denots (rows pair-parts)
+  pair-to r = laid D.rec D.answer (D.next r) (D.said r)
+
   abbrev S : RattleType
-  S = declared.row pair
+  S = Recorded (Struct pair-shape) D.Pair pair-to D.pair_one
 
   abbrev pair-mir : Ty
   pair-mir = ty_struct D.pair-name (tcons D.rec.mir (tcons D.answer.mir tnil))
@@ -134,10 +138,13 @@ module _ (D : Door) where
   pair-val r = vstruct (of_list (rec-val (D.next r) ∷ ans-val (D.said r) ∷ []))
 
   pair-tells : (r : D.Pair) (v : Val) → Is S r (v ∷ []) → v ≡ pair-val r
-  pair-tells r v is = ap only (LL.tells pair pair-laws r _ is)
+  pair-tells r v is = ap only (Struct-Tells pair-shape pair-spells (LL.tellss pair-parts pair-laws) (pair-to r) _ is)
 
   parts : (r : D.Pair) (v : Val) → Is S r (v ∷ []) → Is R (D.next r) (rec-val (D.next r) ∷ []) × Is N (D.said r) (ans-val (D.said r) ∷ [])
-  parts r v is = ((LL.owed pair pair-laws r _ is).0, (LL.owed pair pair-laws r _ is).1.0)
+  parts r v is =
+      let owed : AreAll (rows pair-parts) (pair-to r) (valss (rows pair-parts) pair-spells (pair-to r)) =
+      subst (AreAll (rows pair-parts) (pair-to r)) (tells_all (rows pair-parts) pair-spells (LL.tellss pair-parts pair-laws) (pair-to r) is.0 is.1.1) is.1.1 in
+      (owed.0, owed.1.0)
 
   -- where the two parts lie
   abbrev at_next : ℕ
@@ -163,6 +170,7 @@ module _ (D : Door) where
       ∷ local (table erased) value_local
       ∷ local (ty_ref erased mut (ty_int w64)) value_local
       ∷ local (table erased) value_local
+      ∷ local D.rec.mir value_local
       ∷ []
 
   abbrev the-body : Code
@@ -173,11 +181,12 @@ module _ (D : Door) where
       (seq (assign (place 9 []) (addr_of (place 4 (field 0 ∷ deref (ty_int w64) ∷ []))))
       (seq (assign (place 10 []) (aggregate (copy (place 9 []) ∷ copy (place 4 (field 1 ∷ [])) ∷ [])))
       (seq (call D.step (copy (place 6 []) ∷ copy (place 2 []) ∷ copy (place 8 []) ∷ copy (place 10 []) ∷ []) (place 5 []))
-      (seq (assign (place 1 (deref D.rec.mir ∷ [])) (rv_opd (copy (place 5 (field 0 ∷ [])))))
-      (seq (assign (place 0 []) (rv_opd (copy (place 5 (field 1 ∷ []))))) return)))))))
+      (seq (assign (place 11 []) (rv_opd (copy (place 5 (field 0 ∷ [])))))
+      (seq (assign (place 1 (deref D.rec.mir ∷ [])) (rv_opd (copy (place 11 []))))
+      (seq (assign (place 0 []) (rv_opd (copy (place 5 (field 1 ∷ []))))) return))))))))
 
   abbrev pub function : Fn
-  function = record { lifetimes = 3; outlives = []; params = 4; locals = the-locals; body = the-body }
+  function = record { lifetimes = 3; outlives = []; ty_params = []; givens = 0; params = 4; locals = the-locals; body = the-body }
 
   -- ---- the signatures of the step and of the door, and what is had of the door's parameters at exit
   abbrev pub stepping : Ended
@@ -237,7 +246,10 @@ module _ (D : Door) where
       pair_typed : (r : D.Pair) (v : Val) → Is S r (v ∷ []) → Holds (has_ty pair-mir v) × WT v
       pair_typed r v is =
           (subst (λ (τs : List Ty). Typed (ty_struct D.pair-name (tcons D.rec.mir (to_tys (τs ++ []))) ∷ []) (v ∷ [])) D.answer.layout
-          (subst (λ (τs : List Ty). Typed (ty_struct D.pair-name (to_tys (τs ++ (D.answer.field.row.mir ++ []))) ∷ []) (v ∷ [])) D.rec.layout ((LL.lawful pair pair-laws 𝓛).typed r _ is))).0
+          (subst (λ (τs : List Ty). Typed (ty_struct D.pair-name (to_tys (τs ++ (D.answer.field.row.mir ++ []))) ∷ []) (v ∷ [])) D.rec.layout ((Struct-Lawful 𝓛 pair-shape (LL.lawfuls 𝓛 pair-parts pair-laws)).typed (pair-to r) _ is))).0
+
+      pair_fits : (r : D.Pair) (v : Val) → Is S r (v ∷ []) → Holds (has_ty pair-mir (pair-val r)) × WT (pair-val r)
+      pair_fits r v is = subst (λ (u : Val). Holds (has_ty pair-mir u) × WT u) (pair-tells r v is) (pair_typed r v is)
 
       next-part : (l : ℕ) (r : D.Pair) → Part (Go {0}) 𝓛 (‵ (fat full_share pair-mir l zero (pair-val r))) full_share D.rec.mir l (zero + at_next) (rec-val (D.next r)) (λ u. ‵ (fat full_share pair-mir l zero (vstruct (of_list (u ∷ ans-val (D.said r) ∷ [])))))
       next-part l r = sub ! 0 refl (whole !)
@@ -265,12 +277,17 @@ module _ (D : Door) where
         abbrev Done : D.Pair → List ℕ → List ℕ → Type 0
         Done r zs₁ zs₂ = Does D h e x₁.now x₂.now (D.said r) (D.next r) zs₁ zs₂
 
+        -- what is had of a table that was given up to the step for good
+        abbrev Given : Lft → MutBor (List ℕ) → List ℕ → Fml
+        Given κ y zs = fsep (finally u64 y.ghost_name zs) (fbor κ (Body (Arr (Holey (mem u64)) (length y.now)) y.ref_ptr.0 y.ref_ptr.1 y.ghost_name))
+
         exits : (r : D.Pair) (zs₁ zs₂ : List ℕ) → Done r zs₁ zs₂ → length zs₁ ≡ length x₁.now → length zs₂ ≡ length x₂.now → Is N (D.said r) (ans-val (D.said r) ∷ [])
-            → ent 𝓤 (sep 𝓤 (A.obs γ (R.coded.code (D.next r))) (sep 𝓤 (A.bor κ (Body (mem R) b o γ)) (sep 𝓤 (A.lft κ q) (sep 𝓤 (sep 𝓤 (A.lft κ₁ q₁) (sep 𝓤 (A.lft κ₂ q₂) (sem 𝓛 ftrue))) (sep 𝓤 (sem 𝓛 (finally u64 x₁.name zs₁)) (sem 𝓛 (finally u64 x₂.name zs₂))))))) (Post (ans-val (D.said r)))
+            → ent 𝓤 (sep 𝓤 (A.obs γ (R.coded.code (D.next r))) (sep 𝓤 (A.bor κ (Body (mem R) b o γ)) (sep 𝓤 (A.lft κ q) (sep 𝓤 (sep 𝓤 (A.lft κ₁ q₁) (sep 𝓤 (A.lft κ₂ q₂) (sem 𝓛 ftrue))) (sep 𝓤 (sem 𝓛 (Given κ₁ x₁ zs₁)) (sem 𝓛 (Given κ₂ x₂ zs₂))))))) (Post (ans-val (D.said r)))
         exits r zs₁ zs₂ p m₁ m₂ is-a =
-            qed 𝓛 (‵ (fobs γ (R.coded.code (D.next r))) ∷ ‵ (fbor κ (Body (mem R) b o γ)) ∷ ‵ (flft κ q) ∷ (‵ (flft κ₁ q₁) ⊛ (‵ (flft κ₂ q₂) ⊛ ‵ ftrue)) ∷ ‵ (finally u64 x₁.name zs₁) ∷ ‵ (finally u64 x₂.name zs₂) ∷ []) ∵
+            let Left : SProp 𝓤 = on_exit 𝓛 ended stayed (κ, (κ₁, (κ₂, tt))) (q, (q₁, (q₂, tt))) at (ans-val (D.said r)) (D.said r) x (D.next r, (tt, (zs₁, (zs₂, tt)))) in
+            qed 𝓛 (‵ (fobs γ (R.coded.code (D.next r))) ∷ ‵ (fbor κ (Body (mem R) b o γ)) ∷ ‵ (flft κ q) ∷ (‵ (flft κ₁ q₁) ⊛ (‵ (flft κ₂ q₂) ⊛ ‵ ftrue)) ∷ ‵ (Given κ₁ x₁ zs₁) ∷ ‵ (Given κ₂ x₂ zs₂) ∷ []) ∵
             suffices ! _ (ends_at 𝓛 ended stayed c (((κ, (κ₁, (κ₂, tt))), (q, (q₁, (q₂, tt))), tt, x, at), g) (ans-val (D.said r)) (D.said r) (D.next r, (tt, (zs₁, (zs₂, tt)))) (tt, (tt, (m₁, (m₂, tt))))) $
-            suffices ! _ (beside 𝓤 _ (promised (κ, (κ₁, (κ₂, tt))) x g (D.said r) (D.next r, (tt, (zs₁, (zs₂, tt)))) p)) $ move ! (2 ∷ 3 ∷ []) $ join ! $
+            suffices ! Left (beside 𝓤 Left (promised (κ, (κ₁, (κ₂, tt))) x g (D.said r) (D.next r, (tt, (zs₁, (zs₂, tt)))) p)) $ move ! (2 ∷ 3 ∷ []) $ join ! $
             frame ! $ feq_i ! (List Val) (vptr b o ∷ []) (vptr b o ∷ []) refl $ fjoin3 ! $ nothing ! $ move ! (3 ∷ 0 ∷ []) $ fjoin ! $ move ! (2 ∷ 0 ∷ []) $ fjoin ! $
             owned ! E (Is E) (P.makes D.event 𝓛) e _ is-e $ fjoin ! $
             move ! (1 ∷ 0 ∷ []) $ fjoin ! $ owned ! N (Is N) (P.makes D.answer 𝓛) (D.said r) _ is-a $ move ! (1 ∷ 0 ∷ []) $ done !
@@ -293,32 +310,31 @@ module _ (D : Door) where
               split ! $ move ! (2 ∷ []) $ fsplit ! $ fsplit3 ! $ drop ! $ move ! (2 ∷ []) $ fsplit ! $ drop ! $ fsplit ! $ move ! (1 ∷ []) $ fsplit ! $ move ! (1 ∷ []) $ move ! (3 ∷ 4 ∷ 5 ∷ 6 ∷ 2 ∷ 1 ∷ []) $
               -- [obs; the borrow; its token; the tables' tokens; what the tables own; true]
               enter ! C Λ function (vptr b o ∷ e-val e ∷ s₁ ∷ s₂ ∷ []) _ $
-              alloc1 ! (λ l₀. alloc1 ! (λ l₁. alloc1 ! (λ l₂. alloc1 ! (λ l₃. alloc1 ! (λ l₄. alloc1 ! (λ l₅. alloc1 ! (λ l₆. alloc1 ! (λ l₇. alloc1 ! (λ l₈. alloc1 ! (λ l₉. alloc1 ! (λ l₁₀. alloc0 ! $ params1 ! $
-              pass1 ! (init ! 18 refl (tt, tt)) $ pass1 ! (init ! 16 refl (P.typed D.event 𝓛 e is-e)) $ pass1 ! (init ! 14 refl (tt, (tt, (record { fits = room₁.0 }, tt)))) $ pass1 ! (init ! 12 refl (tt, (tt, (record { fits = room₂.0 }, tt)))) $ pass0 ! $
-              move ! (22 ∷ 23 ∷ 24 ∷ []) $ opens ! tt R {h = h} b o (λ vs. spelt ! R (Is R) (shows 𝓛 R) (λ h. rec-val h ∷ []) (P.tells D.rec) full_share h vs b o $
+              alloc_all ! (λ l. pass_all ! refl ((tt, tt), (P.typed D.event 𝓛 e is-e, ((tt, (tt, (record { fits = room₁.0 }, tt))), ((tt, (tt, (record { fits = room₂.0 }, tt))), tt)))) $
+              opens ! tt R {h = h} b o (λ vs. spelt ! R (Is R) (shows 𝓛 R) (λ h. rec-val h ∷ []) (P.tells D.rec) full_share h vs b o $
               move ! (1 ∷ []) $ peeks ! R (Is R) (shows 𝓛 R) h (rec-val h ∷ []) (λ is-h. move ! (1 ∷ 0 ∷ []) $
-              -- [the record's cell; what it owns; the open borrow; obs; auth; _10 at 5; …; _i at 25 − 2 i; …; the tables' tokens; what the tables own; true]
-              assigns ! (of_opd ! (load ! (from ! (hop ! (look ! 23 refl) (stop !))) (look_raw ! 0 refl))) (from ! (stop !)) (init ! 13 refl (P.typed D.rec 𝓛 h is-h)) $
-              assigns ! (addr ! (from ! (fld ! refl (hop ! (look_in ! 19 (sub ! 0 refl (whole !))) (stop !))))) (from ! (stop !)) (init ! 11 refl (tt, tt)) $
-              assigns ! (agg ! (and_then ! (load ! (from ! (stop !)) (look ! 11 refl)) (and_then ! (load ! (from ! (fld ! refl (stop !))) (look_in ! 19 (sub ! 1 refl (whole !)))) (no_more !)))) (from ! (stop !)) (init ! 9 refl (tt, (tt, (record { fits = room₁.0 }, tt)))) $
-              assigns ! (addr ! (from ! (fld ! refl (hop ! (look_in ! 17 (sub ! 0 refl (whole !))) (stop !))))) (from ! (stop !)) (init ! 7 refl (tt, tt)) $
-              assigns ! (agg ! (and_then ! (load ! (from ! (stop !)) (look ! 7 refl)) (and_then ! (load ! (from ! (fld ! refl (stop !))) (look_in ! 17 (sub ! 1 refl (whole !)))) (no_more !)))) (from ! (stop !)) (init ! 5 refl (tt, (tt, (record { fits = room₂.0 }, tt)))) $
-              move ! (27 ∷ 28 ∷ 29 ∷ []) $ use3 𝓛 (raw (Step.pre to_step)) (goes_step is-h) $
-              calls_at ! fm Step known to_step (and_then ! (load ! (from ! (stop !)) (look ! 14 refl)) (and_then ! (load ! (from ! (stop !)) (look ! 22 refl)) (and_then ! (load ! (from ! (stop !)) (look ! 10 refl)) (and_then ! (load ! (from ! (stop !)) (look ! 6 refl)) (no_more !))))) (λ v.
+              sets ! (of_opd ! (load ! (through ! refl (stop !)) (look_raw ! 0 refl))) refl (P.typed D.rec 𝓛 h is-h) $
+              sets ! (addr ! (from ! (fld ! refl (hop ! (look_in_at ! 3 (sub ! 0 refl (whole !))) (stop !))))) refl (tt, tt) $
+              sets ! (agg ! (and_then ! (get ! refl) (and_then ! (get_in ! (fld ! refl (stop !)) (sub ! 1 refl (whole !))) (no_more !)))) refl (tt, (tt, (record { fits = room₁.0 }, tt))) $
+              sets ! (addr ! (from ! (fld ! refl (hop ! (look_in_at ! 4 (sub ! 0 refl (whole !))) (stop !))))) refl (tt, tt) $
+              sets ! (agg ! (and_then ! (get ! refl) (and_then ! (get_in ! (fld ! refl (stop !)) (sub ! 1 refl (whole !))) (no_more !)))) refl (tt, (tt, (record { fits = room₂.0 }, tt))) $
+              move ! (5 ∷ 6 ∷ 7 ∷ []) $ use3 𝓛 (raw (Step.pre to_step)) (goes_step is-h) $
+              calls_at ! fm Step known to_step (and_then ! (get ! refl) (and_then ! (get ! refl) (and_then ! (get ! refl) (and_then ! (get ! refl) (no_more !))))) (λ v.
               use1 𝓛 (later (some (λ (r : D.Pair). ((‵ (flft κ₁ q₁) ⊛ (‵ (flft κ₂ q₂) ⊛ ‵ ftrue)) ⊛ ‵ (S.own_val r (v ∷ []))) ⊛ raw (ensured 𝓛 stepping (steps 𝓤) (κ₁, (κ₂, tt)) (h, (e, (x₁, (x₂, tt)))) tt r)))) (id⊢ 𝓤 _) $ await ! tt $ pick ! (λ r.
               split ! $ move ! (1 ∷ []) $ use1 𝓛 (some (λ (zs : Unit {0} × (Unit {0} × (List ℕ × (List ℕ × Unit {0})))). ‵ (lasts stepping (κ₁, (κ₂, tt)) (h, (e, (x₁, (x₂, tt)))) zs) ⊛ raw (fact 𝓤 (r ≡ D.step_of h e (length x₁.now) (length x₂.now))) ⊛ raw (fact 𝓤 (zs.1.1.0 ≡ D.entries_of h e x₁.now x₂.now)) ⊛ raw (facts 𝓤 (zs.1.1.1.0 ≡ D.contexts_of h e x₁.now x₂.now) (D.more h e (length x₁.now) (length x₂.now) r)))) (id⊢ 𝓤 _) $ pick ! (λ zs.
               split ! $ move ! (1 ∷ []) $ split ! $ heard ! (r ≡ D.step_of h e (length x₁.now) (length x₂.now)) (λ t. split ! $ heard ! (zs.1.1.0 ≡ D.entries_of h e x₁.now x₂.now) (λ t₁. use1 𝓛 (raw (fact 𝓤 (zs.1.1.1.0 ≡ D.contexts_of h e x₁.now x₂.now))) (first-fact 𝓤 (D.more h e (length x₁.now) (length x₂.now) r)) $ heard ! (zs.1.1.1.0 ≡ D.contexts_of h e x₁.now x₂.now) (λ t₂.
-              fsplit ! $ drop ! $ fsplit ! $ drop ! $ fsplit ! $ fsplit ! $ move ! (1 ∷ []) $ feq_l ! (λ m₁. move ! (1 ∷ []) $ fsplit ! $ fsplit ! $ move ! (1 ∷ []) $ feq_l ! (λ m₂. move ! (1 ∷ []) $ move ! (2 ∷ 1 ∷ []) $
-              move ! (3 ∷ []) $ split ! $ move ! (1 ∷ []) $ peeks ! S (Is S) (shows 𝓛 S) r (v ∷ []) (λ is.
-              land ! (from ! (stop !)) (init ! 20 refl (pair_typed r v is)) $ drop ! $ move ! (4 ∷ 5 ∷ 6 ∷ 7 ∷ 8 ∷ []) $
-              rewrite ! 19 (λ (u : Val). ‵ (fat full_share pair-mir l₅ zero u)) (pair-tells r v is) refl $
-              assigns ! (of_opd ! (load ! (from ! (fld ! {τ = D.rec.mir} {d = at_next} refl (stop !))) (look_in ! 19 (next-part l₅ r)))) (from ! (hop ! (look ! 27 refl) (stop !)))
-              (store_raw ! 0 refl (P.typed D.rec 𝓛 (D.next r) (parts r v is).0)) $
-              assigns ! (of_opd ! (load ! (from ! (fld ! {τ = D.answer.mir} {d = at-said} refl (stop !))) (look_in ! 19 (said-part l₅ r)))) (from ! (stop !)) (init ! 29 refl (P.typed D.answer 𝓛 (D.said r) (parts r v is).1)) $
-              move ! (1 ∷ []) $ drop ! $ owned ! R (Is R) (P.makes D.rec 𝓛) (D.next r) _ (parts r v is).0 $ move ! (1 ∷ 0 ∷ []) $ closes ! tt R (D.next r) (rec-val (D.next r) ∷ []) b o $
-              returns ! (look ! 27 refl) $ forget ! 7 refl $ forget ! 9 refl $ forget ! 11 refl $ forget ! 13 refl $ forget ! 15 refl $ forget ! 17 refl $ forget ! 19 refl $ forget ! 21 refl $ forget ! 23 refl $ forget ! 25 refl $ forget ! 27 refl $
-              move ! (27 ∷ 28 ∷ []) $ free1 ! $ move ! (25 ∷ 26 ∷ []) $ free1 ! $ move ! (23 ∷ 24 ∷ []) $ free1 ! $ move ! (21 ∷ 22 ∷ []) $ free1 ! $ move ! (19 ∷ 20 ∷ []) $ free1 ! $ move ! (17 ∷ 18 ∷ []) $ free1 ! $ move ! (15 ∷ 16 ∷ []) $ free1 ! $ move ! (13 ∷ 14 ∷ []) $ free1 ! $ move ! (11 ∷ 12 ∷ []) $ free1 ! $ move ! (9 ∷ 10 ∷ []) $ free1 ! $ move ! (7 ∷ 8 ∷ []) $ free1 ! $ free0 ! $
-              keep ! (0 ∷ 1 ∷ 2 ∷ 3 ∷ 4 ∷ 5 ∷ []) $ by ! (exits r zs.1.1.0 zs.1.1.1.0 (record { answered = ap D.said t; stored = ap D.next t; entries = t₁; contexts = t₂ }) m₁ m₂ (parts r v is).1)))))))))))))))))))))))
+              fsplit ! $ drop ! $ fsplit ! $ drop ! $ fsplit ! $ fsplit ! $ fsplit ! $ move ! (1 ∷ []) $ feq_l ! (λ m₁. fjoin ! $ move ! (1 ∷ []) $ fsplit ! $ fsplit ! $ fsplit ! $ move ! (1 ∷ []) $ feq_l ! (λ m₂. fjoin ! $ move ! (2 ∷ 0 ∷ []) $
+              move ! (3 ∷ []) $ split ! $ move ! (1 ∷ []) $ peeks ! S (Is S) (shows 𝓛 S) r (v ∷ []) (λ is. drop ! $
+              -- [the tables' tokens; what is had of the tables; true; the record's cell; what it owned; the open borrow; obs; auth; true; the locals]
+              lands_as ! (pair-tells r v is) refl (pair_fits r v is) $
+              sets ! (of_opd ! (get_in ! (fld ! {τ = D.rec.mir} {d = at_next} refl (stop !)) (next-part (l 5) r))) refl (P.typed D.rec 𝓛 (D.next r) (parts r v is).0) $
+              assigns ! (of_opd ! (get ! refl)) (through ! refl (stop !)) (store_raw ! 4 refl (P.typed D.rec 𝓛 (D.next r) (parts r v is).0)) $
+              sets ! (of_opd ! (get_in ! (fld ! {τ = D.answer.mir} {d = at-said} refl (stop !)) (said-part (l 5) r))) refl (P.typed D.answer 𝓛 (D.said r) (parts r v is).1) $
+              move ! (4 ∷ 5 ∷ 6 ∷ 7 ∷ 8 ∷ []) $ move ! (1 ∷ []) $ drop ! $
+              owned ! R (Is R) (P.makes D.rec 𝓛) (D.next r) _ (parts r v is).0 $ move ! (1 ∷ 0 ∷ []) $ closes ! tt R (D.next r) (rec-val (D.next r) ∷ []) b o $
+              -- [obs; the borrow; its token; the tables' tokens; what is had of the tables; ..]
+              returns ! (look_at ! 0 refl) $ free_all ! refl $ keep ! (0 ∷ 1 ∷ 2 ∷ 3 ∷ 4 ∷ 5 ∷ []) $
+              by ! (exits r zs.1.1.0 zs.1.1.1.0 (record { answered = ap D.said t; stored = ap D.next t; entries = t₁; contexts = t₂ }) m₁ m₂ (parts r v is).1)))))))))))))
 
       goes : AllGo 𝓛 3 ended.signature.params ended.kept stayed
       goes = (Goes-ref 𝓛 3 0 tt (plain (λ _. R)), (Goes-none 𝓛 3 (λ _. E) yes (λ κs x f. refl), (Goes-gave_slice 𝓛 3 1 tt (plain (λ _. u64)), (Goes-gave_slice 𝓛 3 2 tt (plain (λ _. u64)), tt))))
@@ -332,7 +348,7 @@ module _ (D : Door) where
 
   -- ---- the function k of γ, whose code is the door's, where the step of γ is the routine s and meets its contract
   pub in_place : {M : Type 1} {𝓤 : Ura M} (𝓛 : Logic 𝓤) (𝓜 : Model 𝓤 𝓛.H) (𝓡 : Running 𝓤 𝓛.H 𝓜) (c : Clauses 𝓤 ended) → Promised 𝓤 c
-      → (γ : Env) (k : Name) → Closed 𝓤 𝓛.H (tables 𝓤 𝓛.H 𝓜 𝓡 γ).C (tables 𝓤 𝓛.H 𝓜 𝓡 γ).Λ k function → (s : Routine) → γ D.step ≡ s → Triple 𝓤 (𝓡.run s) (Step 𝓛)
+      → (γ : Env) (k : Callee) → Closed 𝓤 𝓛.H (tables 𝓤 𝓛.H 𝓜 𝓡 γ).C (tables 𝓤 𝓛.H 𝓜 𝓡 γ).Λ k function → (s : Routine) → γ D.step ≡ s → Triple 𝓤 (𝓡.run s) (Step 𝓛)
       → Meets 𝓛 ended.signature (𝓡.run (γ k)) (closing 𝓛 ended c)
   unfolding tables_of
   in_place {𝓤 = 𝓤} 𝓛 𝓜 𝓡 c promised γ k closed s is met =

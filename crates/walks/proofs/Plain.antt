@@ -30,9 +30,11 @@ module _ (P : Plain) where
     mir = P.mir ∷ [];
     written = P.field.row.written;
     reaches = P.field.row.reaches;
+    lives = P.field.row.lives;
     own_val = λ x vs. P.field.row.own_val (P.field.into x) vs;
     exit = λ k. unchanged;
     coded = coded_via P.field.row.coded P.field.into P.field.into_one;
+    shr_at = λ x. P.field.row.shr_at (P.field.into x);
   }
 
   -- a value's machine value

@@ -1,5 +1,5 @@
 use mathlib.Core.Path.{refl}
-use Rattle.basics.specs.Choice.{no, yes}
+use Rattle.basics.proofs.Choice.{no, yes}
 use Rattle.board.specs.Description.{entry_right}
 use Rattle.board.proofs.is_entry_right.Goals as goal
 

@@ -1,6 +1,6 @@
 use borrow.Author.Tests.{lt-ltb, le-ltb}
 use mathlib.Core.Path.{refl}
-use Rattle.basics.specs.Choice.{yes, no}
+use Rattle.basics.proofs.Choice.{yes, no}
 use Rattle.board.specs.Description.{numbered_of}
 use Rattle.board.proofs.numbered.Goals as goal
 

@@ -50,8 +50,7 @@ the-door = record {
 answers : (h : Record) (e : Event) (n m : ℕ) (o : Outcome) → o ≡ (step_of h e n m).outcome → Answers h e n m (said_of o)
 answers h e n m o q = subst (λ (x : Outcome). Answers h e n m (said_of x)) (sym q) (step-answers h e n m)
 
-pub step-in-place-spec : {M : Type 1} → stated.statement M
-unfolding code.routine
-step-in-place-spec 𝓤 𝓛 𝓜 𝓡 = in_place the-door 𝓛 𝓜 𝓡 (door.clauses 𝓛 𝓜.mem 𝓡.run)
+pub step_in_place_spec : {M : Type 1} → stated.statement M
+step_in_place_spec 𝓤 𝓛 𝓜 𝓡 wired = in_place the-door 𝓛 𝓜 𝓡 (door.clauses 𝓛 𝓜.mem 𝓡.returns)
     (λ κs a g n ws does. shown the-door 𝓤 does (stands 𝓤 does.contexts (fact_i 𝓤 _ (emp 𝓤) (answers a.0.now a.1.0 (length a.1.1.0.now) (length a.1.1.1.0.now) n does.answered))))
-    code.env #door·step-in-place (code.unfolded 𝓤 𝓛.H 𝓜 𝓡) step.routine code.calls-agent::step (step_thm.met 𝓤 𝓛 𝓜 𝓡)
+    𝓡.env #door·step-in-place (code.unfolded 𝓤 𝓛.H 𝓜 𝓡 wired) (𝓡.env step.name) refl (step_thm.met 𝓤 𝓛 𝓜 𝓡 (code.calls-agent::step 𝓡.env wired))

@@ -4,7 +4,8 @@ use Prim.Native.Nat.{◌-◌}
 use mathlib.Core.Path.{ap, ◌∙◌}
 use lib.ListN.{length, drop, length-drop}
 use lib.Seq.{take_all}
-use Rattle.basics.specs.Choice.{yes, no, by}
+use Rattle.basics.specs.Choice.{by}
+use Rattle.basics.proofs.Choice.{yes, no}
 use Rattle.given.specs.Numerals.{numeral_of, written_in}
 use Rattle.given.proofs.Laws.{hex-long}
 use Rattle.given.proofs.number_in.Goals as goal

@@ -38,7 +38,6 @@ the-door = record {
   more = λ h e n m r. [];
 }
 
-pub lfa-step-spec : {M : Type 1} → stated.statement M
-unfolding code.routine
-lfa-step-spec 𝓤 𝓛 𝓜 𝓡 = in_place the-door 𝓛 𝓜 𝓡 (lfa-step.clauses 𝓛 𝓜.mem 𝓡.run) (λ κs a g n ws does. shown the-door 𝓤 does (fact_i 𝓤 _ (emp 𝓤) does.contexts))
-    code.env #monitor·lfa-step (code.unfolded 𝓤 𝓛.H 𝓜 𝓡) step.routine code.calls-flat::step (step_thm.met 𝓤 𝓛 𝓜 𝓡)
+pub lfa_step_spec : {M : Type 1} → stated.statement M
+lfa_step_spec 𝓤 𝓛 𝓜 𝓡 wired = in_place the-door 𝓛 𝓜 𝓡 (lfa-step.clauses 𝓛 𝓜.mem 𝓡.returns) (λ κs a g n ws does. shown the-door 𝓤 does (fact_i 𝓤 _ (emp 𝓤) does.contexts))
+    𝓡.env #monitor·lfa-step (code.unfolded 𝓤 𝓛.H 𝓜 𝓡 wired) (𝓡.env step.name) refl (step_thm.met 𝓤 𝓛 𝓜 𝓡 (code.calls-flat::step 𝓡.env wired))

@@ -1,7 +1,8 @@
 -- One case for each return: the tests above it are those of `admitted`, in its order; the numbers follow.
 use mathlib.Core.Path.{refl}
 use borrow.Author.Tests.{le-ltb, lt-ltb}
-use Rattle.basics.specs.Choice.{by, no, yes, and_so}
+use Rattle.basics.specs.Choice.{by, and_so}
+use Rattle.basics.proofs.Choice.{no, yes}
 use Rattle.rules.specs.Decide.{admission_of}
 use Rattle.rules.proofs.Admitted.{admission-first}
 use Rattle.rules.proofs.admit.Goals as goal

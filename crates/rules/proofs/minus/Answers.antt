@@ -1,7 +1,7 @@
 use mathlib.Core.Path.{refl}
 use native.Mathlib.Omega.{arith}
 use borrow.Author.Tests.{eq-eqb, ne_eqb}
-use Rattle.basics.specs.Choice.{no, yes}
+use Rattle.basics.proofs.Choice.{no, yes}
 use Rattle.rules.specs.Statuses.{minus_of}
 use Rattle.rules.proofs.minus.Goals as goal
 

@@ -1,6 +1,6 @@
 use mathlib.Core.Path.{refl}
 use borrow.Author.Tests.{eq-eqb, ne_eqb}
-use Rattle.basics.specs.Choice.{no, yes}
+use Rattle.basics.proofs.Choice.{no, yes}
 use Rattle.agent.specs.Perform.{after_activate}
 use Rattle.agent.proofs.effects.after_activate.Goals as goal
 

@@ -1,4 +1,5 @@
-use Rattle.basics.specs.Choice.{by, yes}
+use Rattle.basics.specs.Choice.{by}
+use Rattle.basics.proofs.Choice.{yes}
 use Rattle.agent.proofs.effects.cancelled.Goals as goal
 
 pub returns-then-is_gathering : goal.returns-then-is_gathering

@@ -1,4 +1,5 @@
-use Rattle.basics.specs.Choice.{by, no, yes}
+use Rattle.basics.specs.Choice.{by}
+use Rattle.basics.proofs.Choice.{no, yes}
 use Rattle.agent.specs.Perform.{ended_of}
 use Rattle.agent.proofs.effects.ended.Goals as goal
 

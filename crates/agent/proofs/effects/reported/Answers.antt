@@ -1,5 +1,5 @@
 use borrow.Author.Tests.{eq-eqb, ne_eqb}
-use Rattle.basics.specs.Choice.{no, yes}
+use Rattle.basics.proofs.Choice.{no, yes}
 use Rattle.agent.specs.Perform.{reported_of}
 use Rattle.agent.proofs.effects.reported.Goals as goal
 

@@ -2,7 +2,8 @@
 use mathlib.Core.Path.{refl}
 use native.Mathlib.Omega.{arith}
 use borrow.Author.Tests.{le-leb, lt-leb}
-use Rattle.basics.specs.Choice.{yes, no, by}
+use Rattle.basics.specs.Choice.{by}
+use Rattle.basics.proofs.Choice.{yes, no}
 use Rattle.bitfield.proofs.Laws.{value-lt}
 use Rattle.board.specs.Packed.{shape_of}
 use Rattle.board.proofs.reading.shape.Goals as goal

@@ -28,8 +28,11 @@ returns c =
     let y = length-bytes 1 (flags_number a.c * 32) in
     let z = length-bytes 4 a.c.svn in
     let w = component-bytes a.c (fit (goal.at.returns c).Start) in
-    record { buf_after = rw w (put_three _ _ _ _ _ _ _ a.c.uuid _ _ c.put_uuid.ensures (rw c.flags.ensures at c.put_number.ensures) c.put_number-2.ensures (omega arith) (omega arith) (omega arith)); typed = record {
+    record {
+      buf_after = rw w (put_three _ _ _ _ _ _ _ a.c.uuid _ _ c.put_uuid.ensures (rw c.flags.ensures at c.put_number.ensures) c.put_number-2.ensures (omega arith) (omega arith) (omega arith));
+      typed = record {
         long = u;
         bytes = put-are-bytes a.buf.now a.k a.c.uuid (omega arith) (λ i. rw (← c.put_uuid.ensures) (omega (arith, c.slice_known-2-1.given i)));
         svn = (fit (goal.at.returns c).Start).1.1.1.1.0;
-      } }
+      };
+    }

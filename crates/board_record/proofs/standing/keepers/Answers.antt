@@ -1,5 +1,6 @@
 use mathlib.Core.Path.{refl}
-use Rattle.basics.specs.Choice.{yes, no, by}
+use Rattle.basics.specs.Choice.{by}
+use Rattle.basics.proofs.Choice.{yes, no}
 use Rattle.board_record.proofs.standing.keepers.Goals as goal
 
 pub returns-then-keeps_entries : goal.returns-then-keeps_entries

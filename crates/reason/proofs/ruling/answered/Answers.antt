@@ -1,7 +1,8 @@
 -- Row by row: a word for each test that was met, `yes` where it held and `no` where it failed.
 use mathlib.Core.Path.{refl, ap}
 use mathlib.Core.Bool.{not}
-use Rattle.basics.specs.Choice.{yes, no, by}
+use Rattle.basics.specs.Choice.{by}
+use Rattle.basics.proofs.Choice.{yes, no}
 use Rattle.reason.specs.declared.Reason.TheVariants.{BeingActivated}
 use Rattle.reason.proofs.ruling.answered.Goals as goal
 

@@ -2,7 +2,8 @@
 use mathlib.Core.Path.{refl, ap}
 use mathlib.Core.Bool.{not}
 use borrow.Author.Tests.{lt-ltb, le-ltb}
-use Rattle.basics.specs.Choice.{yes, no, by}
+use Rattle.basics.specs.Choice.{by}
+use Rattle.basics.proofs.Choice.{yes, no}
 use Rattle.reason.specs.Reason.{call_of}
 use Rattle.reason.specs.declared.Reason.TheVariants.{OtherComponent}
 use Rattle.reason.proofs.ruling.asked.Goals as goal

@@ -2,7 +2,8 @@
 use mathlib.Core.Path.{refl, ap}
 use mathlib.Core.Bool.{not}
 use borrow.Author.Tests.{eq-eqb, ne_eqb}
-use Rattle.basics.specs.Choice.{yes, no, by}
+use Rattle.basics.specs.Choice.{by}
+use Rattle.basics.proofs.Choice.{yes, no}
 use Rattle.reason.specs.Reason.{call_of}
 use Rattle.reason.specs.declared.Reason.TheVariants.{Held}
 use Rattle.reason.proofs.ruling.joined.Goals as goal

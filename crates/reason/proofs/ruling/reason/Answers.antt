@@ -4,7 +4,7 @@ use mathlib.Core.Path.{◌≡◌, refl, sym, ap, ◌∙◌}
 use mathlib.Core.Bool.{true, false}
 use lib.Dec.{eqb}
 use borrow.Author.Tests.{eq-eqb, ne_eqb}
-use Rattle.basics.specs.Choice.{yes, no}
+use Rattle.basics.proofs.Choice.{yes, no}
 use Rattle.reason.specs.Reason.{reason_of}
 use Rattle.reason.specs.declared.Reason.TheVariants.{BeingPrepared, HalfPrepared, WasWithdrawn}
 use Rattle.reason.proofs.ruling.reason.Goals as goal

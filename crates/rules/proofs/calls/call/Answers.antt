@@ -1,7 +1,8 @@
 -- One case for each return: the tests above it are those of `call_of`, in its order.
 use mathlib.Core.Path.{refl}
 use borrow.Author.Tests.{le-leb, lt-leb}
-use Rattle.basics.specs.Choice.{by, no, yes}
+use Rattle.basics.specs.Choice.{by}
+use Rattle.basics.proofs.Choice.{no, yes}
 use Rattle.rules.specs.Calls.{call_of}
 use Rattle.rules.proofs.calls.call.Goals as goal
 

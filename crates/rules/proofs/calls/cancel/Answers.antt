@@ -1,5 +1,6 @@
 -- One case for another component, then one for each cell of the state's row, which `rule` promises: `cancel_of` computes to the answer.
-use Rattle.basics.specs.Choice.{by, no, yes}
+use Rattle.basics.specs.Choice.{by}
+use Rattle.basics.proofs.Choice.{no, yes}
 use Rattle.rules.specs.Calls.{cancel_of}
 use Rattle.rules.proofs.calls.cancel.Goals as goal
 

@@ -1,6 +1,6 @@
 -- One case for each return: the tests above it are those of `inventory_of`, in its order, and what is described is what the calls promise.
 use borrow.Author.Tests.{le-ltb, lt-ltb}
-use Rattle.basics.specs.Choice.{no, yes}
+use Rattle.basics.proofs.Choice.{no, yes}
 use Rattle.rules.specs.Calls.{inventory_of}
 use Rattle.rules.proofs.calls.inventory.Goals as goal
 

@@ -1,5 +1,6 @@
 use mathlib.Core.Path.{refl}
-use Rattle.basics.specs.Choice.{by, no, yes}
+use Rattle.basics.specs.Choice.{by}
+use Rattle.basics.proofs.Choice.{no, yes}
 use Rattle.rules.specs.Calls.{skip_right}
 use Rattle.rules.proofs.calls.is_skip_right.Goals as goal
 

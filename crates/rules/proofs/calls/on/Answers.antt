@@ -1,6 +1,7 @@
 -- One case for each return: the tests above it are those of `on_of`, in its order.
 use borrow.Author.Tests.{le-leb, lt-leb}
-use Rattle.basics.specs.Choice.{by, no, yes}
+use Rattle.basics.specs.Choice.{by}
+use Rattle.basics.proofs.Choice.{no, yes}
 use Rattle.rules.specs.Calls.{on_of}
 use Rattle.rules.proofs.calls.on.Goals as goal
 

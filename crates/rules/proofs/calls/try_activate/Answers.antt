@@ -1,6 +1,7 @@
 -- One case for each return: the tests above it are those of `try_activate_of`, in its order.
 use borrow.Author.Tests.{eq-eqb, ne_eqb}
-use Rattle.basics.specs.Choice.{by, no, yes}
+use Rattle.basics.specs.Choice.{by}
+use Rattle.basics.proofs.Choice.{no, yes}
 use Rattle.rules.specs.Calls.{try_activate_of}
 use Rattle.rules.proofs.calls.try_activate.Goals as goal
 

@@ -1,6 +1,7 @@
 -- One case for each return: the tests above it are those of `try_prime_of`, in its order, of the version and the SVN that the calls promise.
 use borrow.Author.Tests.{le-ltb, lt-ltb}
-use Rattle.basics.specs.Choice.{by, no, yes}
+use Rattle.basics.specs.Choice.{by}
+use Rattle.basics.proofs.Choice.{no, yes}
 use Rattle.rules.specs.Calls.{try_prime_of}
 use Rattle.rules.proofs.calls.try_prime.Goals as goal
 

@@ -1,4 +1,5 @@
-use Rattle.basics.specs.Choice.{by, no, yes}
+use Rattle.basics.specs.Choice.{by}
+use Rattle.basics.proofs.Choice.{no, yes}
 use Rattle.rules.specs.Calls.{try_same_of}
 use Rattle.rules.proofs.calls.try_same.Goals as goal
 

@@ -1,6 +1,7 @@
 -- One case for each return: the tests above it are those of `activate_report_of`, in its order, each by the promises of its calls.
 use mathlib.Core.Path.{refl}
-use Rattle.basics.specs.Choice.{by, no, yes}
+use Rattle.basics.specs.Choice.{by}
+use Rattle.basics.proofs.Choice.{no, yes}
 use Rattle.rules.specs.Reports.{activate_report_of}
 use Rattle.rules.proofs.reports.activate.Goals as goal
 

@@ -1,5 +1,6 @@
 use mathlib.Core.Path.{refl}
-use Rattle.basics.specs.Choice.{by, no, yes}
+use Rattle.basics.specs.Choice.{by}
+use Rattle.basics.proofs.Choice.{no, yes}
 use Rattle.rules.specs.Reports.{prime_report_of}
 use Rattle.rules.proofs.reports.prime.Goals as goal
 
