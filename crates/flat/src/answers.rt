@@ -106,6 +106,7 @@ fn release(number: u64, f: Freed) -> Release
 }
 
 // The record that an event with this answer leaves; one of zeros, which the writer refuses, where it leaves none.
+#[tactic(auto, unfolding(crate::specs::Answers::logged_in, crate::specs::Answers::accepted_in))]
 pub(crate) fn logged(e: FlatEvent, a: FlatAnswer) -> LogRecord
     ensures { result ≡ logged_in e a }
 {

@@ -28,6 +28,7 @@ fn accepted_from(b: Board, s: Story, cpu: u64) -> bool
 }
 
 // X1 to X3 are those of an ACTIVATE for component c, without skip.
+#[tactic(auto, unfolding(crate::specs::Starts::fields_valid))]
 fn fields_valid(b: Board, call: Call, c: u64) -> bool
     ensures { result ≡ fields_valid b call c }
 {

@@ -51,3 +51,6 @@ pub admission-first : (r : Record) (entries contexts : ℕ) (a : Admission) → 
     → refusal_of a ≡ first_of (admission_rows r entries contexts [])
 unfolding admission_of
 admission-first r entries contexts a q = rw q (admitted-first Refused refusal_of (λ x. refl) r entries contexts Admitted [] (λ w. refl))
+
+-- what the check cites of `admit`
+pub ruleset admissions = (admission-first)

@@ -137,9 +137,10 @@ pub fn minus(k: u64) -> u64
 }
 
 // What every event is asked first, whatever it is: a well-formed record, and two resume tables of so many places.
+#[tactic(auto, using(crate::proofs::Admitted::admissions), unfolding(crate::specs::Decide::admission_of))]
 pub fn admit(rec: Record, entry_places: usize, context_places: usize) -> Admission
     ensures value { result ≡ admission_of rec entry_places context_places }
-    ensures result_value { refusal_of result ≡ first_of (admission_rows rec entry_places context_places []) }
+    ensures numbers { refusal_of result ≡ first_of (admission_rows rec entry_places context_places []) }
 {
     let cpus = rec.board.cpus;
     if board_record::is_well_formed(rec) {
