@@ -1,6 +1,6 @@
 -- A test at every number below n, and the laws of a loop that goes through them. Assumes nothing.
 use Rattle.std.specs.Prelude.{ℕ, zero, suc, ◌+◌, ◌<◌, ◌≤◌, ◌≡◌, refl, Bool, true, false, ◌&&◌, List, [], ◌∷◌, ◌++◌, eqb, ltb}
-use Rattle.std.proofs.Common.{sym, ap, ◌∙◌, eqb-true, ltb-true, add-one, arith, not-suc-le-zero, le_antisymm}
+use Rattle.std.proofs.Common.{sym, ap, ◌∙◌, add-one, arith, not-suc-le-zero, le_antisymm}
 use Rattle.std.proofs.Math.Bool.{and-false, and-true}
 use Rattle.basics.specs.Choice.{pick, not-both, and_left, and_right}
 use Rattle.basics.specs.Order.{last-cases}

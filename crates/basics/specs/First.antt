@@ -1,7 +1,7 @@
 -- A table of answers, each with its test, as document 01's of refusals ("The first that applies", Events 20), and what it is for
 -- one of them to be the first. Assumes nothing.
 use Rattle.std.specs.Prelude.{ℕ, zero, suc, ◌<◌, ◌≡◌, refl, Bool, true, false, List, [], ◌∷◌, length, get_or}
-use Rattle.std.proofs.Common.{sym, ap, subst, ◌∙◌, arith, not-suc-le-zero, le_of_suc-le-suc}
+use Rattle.std.proofs.Common.{arith, not-suc-le-zero, le_of_suc-le-suc}
 use Rattle.basics.specs.Choice.{pick}
 
 -- an answer, and whether it applies

@@ -61,8 +61,8 @@ module _ {A : Type 0} (f : ℕ → A) where
       get_or-append (firsts n f) (replicate (m - n) z) d i (omega (arith, length-firsts n)) ∙ get_or-firsts n i d l
 
   -- past the count
-  pub get_d_past : (m : ℕ) (z : A) (n j : ℕ) (d : A) → j < m - n → get_or (table m z n f) (n + j) d ≡ z
-  get_d_past m z n j d l =
+  pub get_or-past : (m : ℕ) (z : A) (n j : ℕ) (d : A) → j < m - n → get_or (table m z n f) (n + j) d ≡ z
+  get_or-past m z n j d l =
       ap (λ (k : ℕ). get_or (table m z n f) (k + j) d) (sym (length-firsts n))
       ∙ get_or-append-add (firsts n f) (replicate (m - n) z) j d
       ∙ get_or-replicate (m - n) j z d l

@@ -3,124 +3,119 @@ use codes::{
     ACTIVATE, ACTIVATION_STARTED, CANCEL, CPU_OFF, CPU_ON, FEATURES, GET_INFO, GET_INVENTORY, GONE,
     HELD, NOTED, PRIME, PRIME_STARTED, RELEASED, RETURNED, VERSION,
 };
-use libc::{STDERR_FILENO, STDOUT_FILENO};
 use log_record::{ACTIVATE_REPORT, CALL, IMAGE, LogRecord, PRIME_REPORT, Refusal};
 use reader::Started;
+use std::io;
 use trace::Replayed;
 
 // From here on a number of 64 bits is a negative one.
 const SIGN: u64 = 0x8000_0000_0000_0000;
 
-pub(crate) fn text(s: &[u8]) {
-    io::write_all(STDOUT_FILENO, s);
+pub(crate) fn text(rt: &impl Print, s: &[u8]) -> io::Result<()> {
+    rt.write_all(s)
 }
 
-// What went wrong, which is no answer.
-pub(crate) fn failure(s: &[u8]) {
-    io::write_all(STDERR_FILENO, s);
-}
-
-pub(crate) fn number(n: u64) {
-    io::print_decimal(STDOUT_FILENO, n);
+pub(crate) fn number(rt: &impl Print, n: u64) -> io::Result<()> {
+    rt.print(n)
 }
 
 // A register as a signed number, so that a status reads as document 01 writes it.
-fn signed(n: u64) {
+fn signed(rt: &impl Print, n: u64) -> io::Result<()> {
     if n < SIGN {
-        number(n);
+        number(rt, n)
     } else {
-        text(b"-");
-        number(rules::minus(n));
+        text(rt, b"-")?;
+        number(rt, rules::minus(n))
     }
 }
 
-fn function(n: u64) {
+fn function(rt: &impl Print, n: u64) -> io::Result<()> {
     match n {
-        VERSION => text(b"VERSION"),
-        FEATURES => text(b"FEATURES"),
-        GET_INFO => text(b"GET_INFO"),
-        GET_INVENTORY => text(b"GET_INVENTORY"),
-        PRIME => text(b"PRIME"),
-        ACTIVATE => text(b"ACTIVATE"),
-        CANCEL => text(b"CANCEL"),
-        CPU_OFF => text(b"CPU_OFF"),
-        CPU_ON => text(b"CPU_ON"),
-        _ => text(b"unknown"),
+        VERSION => text(rt, b"VERSION"),
+        FEATURES => text(rt, b"FEATURES"),
+        GET_INFO => text(rt, b"GET_INFO"),
+        GET_INVENTORY => text(rt, b"GET_INVENTORY"),
+        PRIME => text(rt, b"PRIME"),
+        ACTIVATE => text(rt, b"ACTIVATE"),
+        CANCEL => text(rt, b"CANCEL"),
+        CPU_OFF => text(rt, b"CPU_OFF"),
+        CPU_ON => text(rt, b"CPU_ON"),
+        _ => text(rt, b"unknown"),
     }
 }
 
-fn arguments(first: u64, second: u64) {
-    text(b" ");
-    number(first);
-    text(b" ");
-    number(second);
+fn arguments(rt: &impl Print, first: u64, second: u64) -> io::Result<()> {
+    text(rt, b" ")?;
+    number(rt, first)?;
+    text(rt, b" ")?;
+    number(rt, second)
 }
 
-fn call(r: LogRecord) {
-    number(r.cpu);
-    text(b" ");
-    function(codes::function_number(r.w1));
-    arguments(r.w2, r.w3);
+fn call(rt: &impl Print, r: LogRecord) -> io::Result<()> {
+    number(rt, r.cpu)?;
+    text(rt, b" ")?;
+    function(rt, codes::function_number(r.w1))?;
+    arguments(rt, r.w2, r.w3)
 }
 
 // An event that no CPU makes.
-fn uncalled(name: &[u8], first: u64, second: u64) {
-    text(b"- ");
-    text(name);
-    arguments(first, second);
+fn uncalled(rt: &impl Print, name: &[u8], first: u64, second: u64) -> io::Result<()> {
+    text(rt, b"- ")?;
+    text(rt, name)?;
+    arguments(rt, first, second)
 }
 
 // The caller, the event and its two arguments. No record that reads has a kind but these four.
-pub(crate) fn event(r: LogRecord) {
+pub(crate) fn event(rt: &impl Print, r: LogRecord) -> io::Result<()> {
     let kind = r.kind;
     match kind {
-        CALL => call(r),
-        PRIME_REPORT => uncalled(b"prime-report", r.w2, r.code),
-        ACTIVATE_REPORT => uncalled(b"activate-report", r.w2, r.code),
-        IMAGE => uncalled(b"image", r.w2, r.w3),
-        _ => uncalled(b"unknown", 0, 0),
+        CALL => call(rt, r),
+        PRIME_REPORT => uncalled(rt, b"prime-report", r.w2, r.code),
+        ACTIVATE_REPORT => uncalled(rt, b"activate-report", r.w2, r.code),
+        IMAGE => uncalled(rt, b"image", r.w2, r.w3),
+        _ => uncalled(rt, b"unknown", 0, 0),
     }
 }
 
-fn outcome(n: u64) {
+fn outcome(rt: &impl Print, n: u64) -> io::Result<()> {
     match n {
-        RETURNED => text(b"returned"),
-        HELD => text(b"held"),
-        PRIME_STARTED => text(b"prime-started"),
-        ACTIVATION_STARTED => text(b"activation-started"),
-        GONE => text(b"gone"),
-        RELEASED => text(b"released"),
-        NOTED => text(b"noted"),
-        _ => text(b"unknown"),
+        RETURNED => text(rt, b"returned"),
+        HELD => text(rt, b"held"),
+        PRIME_STARTED => text(rt, b"prime-started"),
+        ACTIVATION_STARTED => text(rt, b"activation-started"),
+        GONE => text(rt, b"gone"),
+        RELEASED => text(rt, b"released"),
+        NOTED => text(rt, b"noted"),
+        _ => text(rt, b"unknown"),
     }
 }
 
 // A record's outcome and word 6.
-pub(crate) fn logged(l: LogRecord) {
-    outcome(l.outcome);
-    text(b" ");
-    signed(l.w6);
+pub(crate) fn logged(rt: &impl Print, l: LogRecord) -> io::Result<()> {
+    outcome(rt, l.outcome)?;
+    text(rt, b" ")?;
+    signed(rt, l.w6)
 }
 
-fn refused(refusal: u64) {
-    text(b"refused-");
-    number(refusal);
-    text(b" 0");
+fn refused(rt: &impl Print, refusal: u64) -> io::Result<()> {
+    text(rt, b"refused-")?;
+    number(rt, refusal)?;
+    text(rt, b" 0")
 }
 
 // The agent's outcome and word 6.
-pub(crate) fn replayed(x: Replayed) {
+pub(crate) fn replayed(rt: &impl Print, x: Replayed) -> io::Result<()> {
     match x {
-        Replayed::Refused(x) => refused(rules::number(x)),
-        Replayed::Logged(l) => logged(l),
-        Replayed::Unknown => refused(log_record::number(Refusal::Unknown)),
+        Replayed::Refused(x) => refused(rt, rules::number(x)),
+        Replayed::Logged(l) => logged(rt, l),
+        Replayed::Unknown => refused(rt, log_record::number(Refusal::Unknown)),
     }
 }
 
 // A component, or none.
-pub(crate) fn started(s: Started) {
+pub(crate) fn started(rt: &impl Print, s: Started) -> io::Result<()> {
     match s {
-        Started::Nothing => text(b"-"),
-        Started::Of(c) => number(c),
+        Started::Nothing => text(rt, b"-"),
+        Started::Of(c) => number(rt, c),
     }
 }

@@ -13,7 +13,7 @@ use borrow.Author.Tests.{eqb-true, eq-eqb, le-leb}
 use Rattle.basics.specs.Choice.{and_left, and_right, never}
 use Rattle.basics.proofs.Choice.{yes}
 use Rattle.basics.specs.Every.{all_below, all_of, all-at, all_same}
-use Rattle.basics.specs.Places.{firsts, length-table, in_turn, length-in_turn, in_turn-same, in_turn-parts, firsts_same, firsts-part, firsts-all, get_or-table, get_d_past, length-firsts}
+use Rattle.basics.specs.Places.{firsts, length-table, in_turn, length-in_turn, in_turn-same, in_turn-parts, firsts_same, firsts-part, firsts-all, get_or-table, get_or-past, length-firsts}
 use Rattle.bitfield.specs.Bits.{AreBytes, value_at, bytes}
 use Rattle.bitfield.specs.Layout.{fields, field_of, join, Fit}
 use Rattle.bitfield.proofs.Laws.{length-bytes, value-lt, value-byte, firsts-bytes}
@@ -310,7 +310,7 @@ read-blank : (s : List ℕ) → blank_past (board_at s) ≡ true
 unfolding board_at all_below
 read-blank s =
     let n = components_in s in
-    all_of (most_components - n) _ (λ j l. ap is_blank (get_d_past (λ i. component_at s (start_of i)) most_components blank n j absent l))
+    all_of (most_components - n) _ (λ j l. ap is_blank (get_or-past (λ i. component_at s (start_of i)) most_components blank n j absent l))
 
 -- a board that reading gives stands in a record
 pub read-stands : (s : List ℕ) (b : Board) → read_of s ≡ accepted b → board_stands b ≡ true

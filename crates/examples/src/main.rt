@@ -1,40 +1,41 @@
 // runs document 01's bench examples and writes what each gives
 #![tactic(auto)]
+
 mod logs;
 mod runs;
 
 use board::{Board, Component, Verdict, Written};
-use libc::STDOUT_FILENO;
+use std::io;
 
-fn text(s: &[u8]) {
-    io::write_all(STDOUT_FILENO, s);
+fn text(rt: &impl Print, s: &[u8]) -> io::Result<()> {
+    rt.write_all(s)
 }
 
-fn number(n: u64) {
-    io::print_decimal(STDOUT_FILENO, n);
+fn number(rt: &impl Print, n: u64) -> io::Result<()> {
+    rt.print(n)
 }
 
-fn byte(b: u8) {
-    io::print_hex(STDOUT_FILENO, b as u64, 2);
+fn byte(rt: &impl Print, b: u8) -> io::Result<()> {
+    print!(rt; "{b:02x}")
 }
 
 // Whether an address is a good entry in the range 0x1000 to 0x1FFF.
-fn entry(name: &[u8], address: u64) {
-    text(b"entry ");
-    text(name);
+fn entry(rt: &impl Print, name: &[u8], address: u64) -> io::Result<()> {
+    text(rt, b"entry ")?;
+    text(rt, name)?;
     if board::good_entry(0x1000, 0x1FFF, address) {
-        text(b": good\n");
+        text(rt, b": good\n")
     } else {
-        text(b": not good\n");
+        text(rt, b": not good\n")
     }
 }
 
-fn entries() {
-    entry(b"0x1000", 0x1000);
-    entry(b"0x1FFC", 0x1FFC);
-    entry(b"0xFFC", 0xFFC);
-    entry(b"0x1FFE", 0x1FFE);
-    entry(b"0x2000", 0x2000);
+fn entries(rt: &impl Print) -> io::Result<()> {
+    entry(rt, b"0x1000", 0x1000)?;
+    entry(rt, b"0x1FFC", 0x1FFC)?;
+    entry(rt, b"0xFFC", 0xFFC)?;
+    entry(rt, b"0x1FFE", 0x1FFE)?;
+    entry(rt, b"0x2000", 0x2000)
 }
 
 const COUNTING: [u8; board::UUID_BYTES] = [0, 1, 2, 3, 4, 5, 6, 7, 8, 9, 10, 11, 12, 13, 14, 15];
@@ -64,53 +65,53 @@ fn sample() -> Board {
 }
 
 // What the first n bytes of a buffer are read as.
-fn reading(buf: &[u8; 60], n: usize) {
+fn reading(rt: &impl Print, buf: &[u8; 60], n: usize) -> io::Result<()> {
     let s = &buf[..];
     if n > s.len() {
-        return;
+        return Ok(());
     }
-    text(b"reading ");
-    number(n as u64);
+    text(rt, b"reading ")?;
+    number(rt, n as u64)?;
     let read = board::read_board(&s[0..n]);
     let verdict = read.verdict;
     match verdict {
         Verdict::Accepted => {
-            text(b" bytes: CPUs ");
-            number(read.board.cpus);
+            text(rt, b" bytes: CPUs ")?;
+            number(rt, read.board.cpus)?;
         }
         Verdict::Refused(x) => {
-            text(b" bytes: refused ");
-            number(board::number(x));
+            text(rt, b" bytes: refused ")?;
+            number(rt, board::number(x))?;
         }
     }
-    text(b"\n");
+    text(rt, b"\n")
 }
 
-fn writing(buf: &mut [u8; 60]) {
-    text(b"writing a board: ");
+fn writing(rt: &impl Print, buf: &mut [u8; 60]) -> io::Result<()> {
+    text(rt, b"writing a board: ")?;
     match board::put_board(buf, sample()) {
         Written::Bytes(n) => {
-            number(n as u64);
-            text(b" bytes, opens ");
-            byte(buf[0]);
-            text(b" ");
-            byte(buf[1]);
+            number(rt, n as u64)?;
+            text(rt, b" bytes, opens ")?;
+            byte(rt, buf[0])?;
+            text(rt, b" ")?;
+            byte(rt, buf[1])?;
         }
         Written::Nothing(x) => {
-            text(b"refused ");
-            number(board::number(x));
+            text(rt, b"refused ")?;
+            number(rt, board::number(x))?;
         }
     }
-    text(b"\n");
+    text(rt, b"\n")
 }
 
-fn main() {
-    entries();
+fn main(rt: HostRuntime) -> io::Result<()> {
+    entries(&rt)?;
     let mut buf = [0u8; 60];
-    writing(&mut buf);
-    reading(&buf, 60);
-    reading(&buf, 59);
-    reading(&buf, 1);
-    runs::all();
-    logs::all();
+    writing(&rt, &mut buf)?;
+    reading(&rt, &buf, 60)?;
+    reading(&rt, &buf, 59)?;
+    reading(&rt, &buf, 1)?;
+    runs::all(&rt)?;
+    logs::all(&rt)
 }

@@ -1,11 +1,10 @@
 -- Readers as numbers and back: every reader comes back from its numbers, and numbers that are a reader's are those of the one that they
 -- make. So the functions over numbers go as those over readers, and where a reader stays its numbers do. Assumes nothing.
-use Prim.Native.Nat.{ℕ, ◌-◌}
+use Prim.Native.Nat.{ℕ}
 use mathlib.Core.Path.{◌≡◌, refl, sym, ap, ◌∙◌}
 use mathlib.Core.Bool.{Bool, true, false}
 use mathlib.Core.List.{List, []}
 use lib.Dec.{eqb}
-use lib.ListN.{length}
 use borrow.Author.Tests.{eqb-true}
 use Rattle.basics.specs.Choice.{pick, not-both}
 use Rattle.log_record.specs.Rules.{number_of}

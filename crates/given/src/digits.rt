@@ -8,6 +8,7 @@ use crate::{MARK, Numeral};
 const MOST: u64 = 0xFFFF_FFFF_FFFF_FFFF;
 
 // What a byte is as a digit; 16, which is none in either base, for any other.
+#[tactic(auto, using(crate::proofs::Laws::decimal, crate::proofs::Laws::lower, crate::proofs::Laws::upper, crate::proofs::Laws::other))]
 fn digit(b: u8) -> u64
     ensures { result ≡ digit_of b }
 {

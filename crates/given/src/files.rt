@@ -1,45 +1,68 @@
 // The file that an argument names.
-ghost use Rattle.io.specs.Counts.{IsPrefixLen};
-ghost use Rattle.given.specs.Files.{IsIn};
+ghost use Rattle.given.specs.Files.{IsIn, IsPrefixLen};
 
 use crate::{File, say};
+use std::env::FillError;
+use std::io::Read;
+use std::rt::{Env, Files};
+use std::{fs, str};
 
-// Whether a file has ended, and not failed.
-fn is_at_end(fd: i32) -> bool {
-    let mut byte = [0u8; 1];
-    libc::read(fd, &mut byte) == 0
-}
-
-pub(crate) fn say_unread(name: &[u8]) {
-    say(b"cannot read ");
-    say(name);
-    say(b"\n");
+pub(crate) fn say_unread(stderr: &impl Print, name: &[u8]) {
+    say(stderr, b"cannot read ");
+    say(stderr, name);
+    say(stderr, b"\n");
 }
 
 // Puts the name that argument i gives in a buffer, and answers how much of it there is: all that fits where it is too long,
-// which is no path to `os`.
-pub(crate) fn name(i: usize, path: &mut [u8]) -> usize
+// which is no path.
+pub(crate) fn name(rt: &impl Env, i: usize, path: &mut [u8]) -> usize
     ensures { IsPrefixLen result path.new }
 {
-    let n = os::arg(i, path);
-    if os::errno() == libc::ENAMETOOLONG {
-        path.len()
-    } else {
-        n
+    match rt.arg(i, path) {
+        Ok(n) => n,
+        Err(FillError::TooLong) => path.len(),
+        Err(FillError::NotPresent) => 0,
     }
 }
 
+// The file of that name, where there is one that can be opened. A name that is no UTF-8 is none for `std::fs`.
+pub(crate) fn open<R: Files>(rt: &R, name: &[u8]) -> Option<R::File> {
+    let path = str::from_utf8(name).ok()?;
+    fs::open(rt, path).ok()
+}
+
+// Reads until the buffer is full, the file ends or a read fails, and answers how many bytes are at the buffer's start.
+fn read_full(file: &mut impl Read, buf: &mut [u8]) -> usize
+    ensures { IsPrefixLen result buf.new }
+{
+    let mut done: usize = 0;
+    while done < buf.len() {
+        match file.read(&mut buf[done..]) {
+            Ok(0) => break,
+            Ok(n) => done += n,
+            Err(_) => break,
+        }
+    }
+    done
+}
+
+// Whether a file has ended, and not failed.
+fn is_at_end(file: &mut impl Read) -> bool {
+    let mut byte = [0u8; 1];
+    matches!(file.read(&mut byte), Ok(0))
+}
+
 // Fills a buffer from an open file, as far as that goes.
-pub(crate) fn fill(fd: i32, name: &[u8], buf: &mut [u8]) -> File
+pub(crate) fn fill(stderr: &impl Print, file: &mut impl Read, name: &[u8], buf: &mut [u8]) -> File
     ensures { IsIn result buf.new }
 {
-    let n = io::read_full(fd, buf);
+    let n = read_full(file, buf);
     if n == buf.len() {
         return File::Bytes(n);
     }
-    if is_at_end(fd) {
+    if is_at_end(file) {
         return File::Bytes(n);
     }
-    say_unread(name);
+    say_unread(stderr, name);
     File::Unread
 }

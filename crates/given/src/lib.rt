@@ -1,5 +1,6 @@
 // What the words of a program's command line give it: the bytes of a file, or a number.
 #![tactic(auto)]
+
 mod digits;
 mod files;
 
@@ -7,8 +8,13 @@ ghost use Rattle.std.specs.Prelude.{◌≡◌};
 ghost use Rattle.given.specs.Files.{IsIn};
 ghost use Rattle.given.specs.Numerals.{numeral_of};
 
-// Room for any word: Linux passes none of 131,072 bytes or more. Of one that doesn't fit `os` gives none, and that is no number.
+use std::rt::{Env, Files};
+
+// Room for any word: Linux passes none of 131,072 bytes or more. One that does not fit is no number.
 pub const WORD_ROOM: usize = 131_072;
+
+// Room for any path, and one byte more: a name that fills it is none.
+const PATH_ROOM: usize = 4096;
 
 // The two bases, and the bytes of `0x`.
 const DECIMAL: u64 = 10;
@@ -31,25 +37,24 @@ pub enum Numeral {
     NotOne,
 }
 
-// What went wrong, which is no answer.
-fn say(s: &[u8]) {
-    io::write_all(libc::STDERR_FILENO, s);
+// What went wrong, which is no answer. Where that can't be written either, there is nothing more to say.
+fn say(stderr: &impl Print, s: &[u8]) {
+    let _ = stderr.write_all(s);
 }
 
 // Reads the file that argument i names; says so where it can't be.
-pub fn read_file(i: usize, buf: &mut [u8]) -> File
+pub fn read_file<R: Env + Files>(rt: &R, stderr: &impl Print, i: usize, buf: &mut [u8]) -> File
     ensures { IsIn result buf.new }
 {
-    let mut path = io::buffer();
-    let n = files::name(i, &mut path);
-    let fd = os::open_read(&path[..n]);
-    if fd < 0 {
-        files::say_unread(&path[..n]);
-        return File::Unread;
+    let mut path = [0u8; PATH_ROOM];
+    let n = files::name(rt, i, &mut path);
+    match files::open(rt, &path[..n]) {
+        Some(mut file) => files::fill(stderr, &mut file, &path[..n], buf),
+        None => {
+            files::say_unread(stderr, &path[..n]);
+            File::Unread
+        }
     }
-    let file = files::fill(fd, &path[..n], buf);
-    libc::close(fd);
-    file
 }
 
 // The number that a word says: in hex digits after `0x`, else in decimal ones.
@@ -64,14 +69,14 @@ fn number_in(word: &[u8]) -> Numeral
 }
 
 // The number that a word says; says so, with the word, where it is none.
-pub fn read_number(word: &[u8]) -> Numeral
+pub fn read_number(stderr: &impl Print, word: &[u8]) -> Numeral
     ensures { result ≡ numeral_of word.now }
 {
     let numeral = number_in(word);
     if let Numeral::NotOne = numeral {
-        say(b"not a number: ");
-        say(word);
-        say(b"\n");
+        say(stderr, b"not a number: ");
+        say(stderr, word);
+        say(stderr, b"\n");
     }
     numeral
 }

@@ -1,8 +1,9 @@
 // reads a log from standard input as it comes, and writes each record as soon as its last byte is there
 #![tactic(auto)]
+
 mod words;
 
-ghost use Rattle.std.specs.Prelude.{◌≡◌};
+ghost use Rattle.std.specs.Prelude.{◌≡◌, IfOk};
 ghost use Rattle.deliveries.specs.Lead.{is_open};
 ghost use Rattle.deliveries.specs.Taken.{taken_of, closing_of};
 ghost use Rattle.deliveries.specs.Shown.{delivered};
@@ -10,46 +11,50 @@ ghost use Rattle.deliveries.specs.declared.Given.TheVariants.{Record, Refused};
 ghost use Rattle.deliveries.specs.declared.Ending.TheVariants as ending;
 
 use deliveries::{Ending, Given, Lead, Refusal, Standing};
-use libc::{STDERR_FILENO, STDIN_FILENO};
 use log_record::LogRecord;
+use std::io;
+use std::io::Read;
 use words::{number, text};
 
+// The most bytes that one read takes; it waits for none once there are some.
+const ROOM: usize = 65536;
+
 // The line of a record that a delivery gives: its place is the number of those before it.
-fn line(lead: Lead, delivery: &[u8], r: LogRecord)
+fn line(rt: &impl Print, lead: Lead, delivery: &[u8], r: LogRecord) -> io::Result<()>
     requires { (taken_of lead delivery.now).given ≡ Record r }
 {
-    number(lead.records as u64);
-    text(b" ");
-    words::kind(r.kind);
-    text(b" ");
-    number(r.cpu);
-    text(b" ");
-    number(r.code);
-    text(b" ");
-    words::outcome(r.outcome);
-    words::words(r);
-    text(b"\n");
+    number(rt, lead.records as u64)?;
+    text(rt, b" ")?;
+    words::kind(rt, r.kind)?;
+    text(rt, b" ")?;
+    number(rt, r.cpu)?;
+    text(rt, b" ")?;
+    number(rt, r.code)?;
+    text(rt, b" ")?;
+    words::outcome(rt, r.outcome)?;
+    words::words(rt, r)?;
+    text(rt, b"\n")
 }
 
 // The words of a refusal, whether a delivery or the end of input brought it.
-fn refusal(x: Refusal) {
-    text(b"refused ");
-    number(deliveries::number(x));
-    text(b" at ");
-    number(deliveries::place(x) as u64);
-    text(b"\n");
+fn refusal(rt: &impl Print, x: Refusal) -> io::Result<()> {
+    text(rt, b"refused ")?;
+    number(rt, deliveries::number(x))?;
+    text(rt, b" at ")?;
+    number(rt, deliveries::place(x) as u64)?;
+    text(rt, b"\n")
 }
 
 // The line of a delivery that is refused.
-fn refused(lead: Lead, delivery: &[u8], x: Refusal)
+fn refused(rt: &impl Print, lead: Lead, delivery: &[u8], x: Refusal) -> io::Result<()>
     requires { (taken_of lead delivery.now).given ≡ Refused x }
 {
-    refusal(x);
+    refusal(rt, x)
 }
 
 // The lines of what a delivery gives, and the reader after it.
-fn deliver(first: Lead, delivery: &[u8]) -> Lead
-    ensures { result ≡ (delivered first delivery.now).lead }
+fn deliver(rt: &impl Print, first: Lead, delivery: &[u8]) -> io::Result<Lead>
+    ensures { IfOk result (λ lead. lead ≡ (delivered first delivery.now).lead) }
 {
     let mut lead = first;
     let mut at: usize = 0;
@@ -58,44 +63,44 @@ fn deliver(first: Lead, delivery: &[u8]) -> Lead
         let given = taken.given;
         let next = taken.lead;
         match given {
-            Given::Nothing => return next,
+            Given::Nothing => return Ok(next),
             Given::Refused(x) => {
-                refused(lead, &delivery[at..], x);
-                return next;
+                refused(rt, lead, &delivery[at..], x)?;
+                return Ok(next);
             }
             Given::Record(r) => {
-                line(lead, &delivery[at..], r);
+                line(rt, lead, &delivery[at..], r)?;
                 at += taken.used;
                 lead = next;
             }
         }
     }
-    lead
+    Ok(lead)
 }
 
 // The line of a log that ends well.
-fn closed(lead: Lead, n: usize)
+fn closed(rt: &impl Print, lead: Lead, n: usize) -> io::Result<()>
     requires { (closing_of lead).ending ≡ ending.Records n }
 {
-    text(b"closed ");
-    number(n as u64);
-    text(b"\n");
+    text(rt, b"closed ")?;
+    number(rt, n as u64)?;
+    text(rt, b"\n")
 }
 
 // The line of a log that ends in the middle of a record.
-fn unended(lead: Lead, x: Refusal)
+fn unended(rt: &impl Print, lead: Lead, x: Refusal) -> io::Result<()>
     requires { (closing_of lead).ending ≡ ending.Refused x }
 {
-    refusal(x);
+    refusal(rt, x)
 }
 
 // The last line, where input ends.
-fn end(lead: Lead) {
+fn end(rt: &impl Print, lead: Lead) -> io::Result<()> {
     let closing = deliveries::close(lead);
     let ending = closing.ending;
     match ending {
-        Ending::Records(n) => closed(lead, n),
-        Ending::Refused(x) => unended(lead, x),
+        Ending::Records(n) => closed(rt, lead, n),
+        Ending::Refused(x) => unended(rt, lead, x),
     }
 }
 
@@ -110,21 +115,22 @@ fn is_open(lead: Lead) -> bool
     }
 }
 
-fn main() {
-    text(b"place kind cpu code outcome word1 word2 word3 word4 word5 word6\n");
-    let mut buf = io::large_buffer();
+fn main(rt: HostRuntime) -> io::Result<()> {
+    text(
+        &rt,
+        b"place kind cpu code outcome word1 word2 word3 word4 word5 word6\n",
+    )?;
+    let mut buf = [0u8; ROOM];
+    let mut input = rt.stdin();
     let mut lead = deliveries::open();
     while is_open(lead) {
-        let got = libc::read(STDIN_FILENO, &mut buf);
-        if got < 0 {
-            io::write_all(STDERR_FILENO, b"cannot read standard input\n");
-            return;
-        }
-        let n = io::count(got, &buf);
+        let Ok(n) = input.read(&mut buf) else {
+            return rt.eprintln("cannot read standard input");
+        };
         if n == 0 {
-            end(lead);
-            return;
+            return end(&rt, lead);
         }
-        lead = deliver(lead, &buf[..n]);
+        lead = deliver(&rt, lead, &buf[..n])?;
     }
+    Ok(())
 }

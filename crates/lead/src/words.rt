@@ -1,51 +1,50 @@
 // What the columns of a line say.
 use codes::{ACTIVATION_STARTED, GONE, HELD, NOTED, PRIME_STARTED, RELEASED, RETURNED};
-use libc::STDOUT_FILENO;
 use log_record::{ACTIVATE_REPORT, CALL, IMAGE, LogRecord, PRIME_REPORT};
+use std::io;
 
-pub(crate) fn text(s: &[u8]) {
-    io::write_all(STDOUT_FILENO, s);
+pub(crate) fn text(rt: &impl Print, s: &[u8]) -> io::Result<()> {
+    rt.write_all(s)
 }
 
-pub(crate) fn number(n: u64) {
-    io::print_decimal(STDOUT_FILENO, n);
+pub(crate) fn number(rt: &impl Print, n: u64) -> io::Result<()> {
+    rt.print(n)
 }
 
 // No record that reads has a kind but these four.
-pub(crate) fn kind(n: u64) {
+pub(crate) fn kind(rt: &impl Print, n: u64) -> io::Result<()> {
     match n {
-        CALL => text(b"call"),
-        PRIME_REPORT => text(b"prime"),
-        ACTIVATE_REPORT => text(b"activate"),
-        IMAGE => text(b"image"),
-        _ => text(b"unknown"),
+        CALL => text(rt, b"call"),
+        PRIME_REPORT => text(rt, b"prime"),
+        ACTIVATE_REPORT => text(rt, b"activate"),
+        IMAGE => text(rt, b"image"),
+        _ => text(rt, b"unknown"),
     }
 }
 
-pub(crate) fn outcome(n: u64) {
+pub(crate) fn outcome(rt: &impl Print, n: u64) -> io::Result<()> {
     match n {
-        RETURNED => text(b"returned"),
-        HELD => text(b"held"),
-        PRIME_STARTED => text(b"prime-started"),
-        ACTIVATION_STARTED => text(b"activation-started"),
-        GONE => text(b"gone"),
-        RELEASED => text(b"released"),
-        NOTED => text(b"noted"),
-        _ => text(b"unknown"),
+        RETURNED => text(rt, b"returned"),
+        HELD => text(rt, b"held"),
+        PRIME_STARTED => text(rt, b"prime-started"),
+        ACTIVATION_STARTED => text(rt, b"activation-started"),
+        GONE => text(rt, b"gone"),
+        RELEASED => text(rt, b"released"),
+        NOTED => text(rt, b"noted"),
+        _ => text(rt, b"unknown"),
     }
 }
 
 // A word in hex digits, with no zeros before them.
-fn word(n: u64) {
-    text(b" 0x");
-    io::print_hex(STDOUT_FILENO, n, 1);
+fn word(rt: &impl Print, n: u64) -> io::Result<()> {
+    print!(rt; " 0x{n:x}")
 }
 
-pub(crate) fn words(r: LogRecord) {
-    word(r.w1);
-    word(r.w2);
-    word(r.w3);
-    word(r.w4);
-    word(r.w5);
-    word(r.w6);
+pub(crate) fn words(rt: &impl Print, r: LogRecord) -> io::Result<()> {
+    word(rt, r.w1)?;
+    word(rt, r.w2)?;
+    word(rt, r.w3)?;
+    word(rt, r.w4)?;
+    word(rt, r.w5)?;
+    word(rt, r.w6)
 }

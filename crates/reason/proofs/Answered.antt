@@ -3,7 +3,7 @@
 use Prim.Native.Nat.{ℕ}
 use mathlib.Core.Path.{◌≡◌, refl, sym, ap, subst, ◌∙◌}
 use mathlib.Core.Bool.{Bool, true, false, not, ◌&&◌}
-use mathlib.Core.List.{List, [], ◌∷◌, ◌++◌}
+use mathlib.Core.List.{[], ◌∷◌, ◌++◌}
 use lib.Dec.{eqb, leb, ltb}
 use Rattle.basics.specs.Choice.{pick, never}
 use Rattle.basics.specs.First.{first_in}
@@ -15,7 +15,7 @@ use Rattle.board_record.specs.WellFormed.{well_formed}
 use Rattle.board_record.specs.declared.Record.{Record}
 use Rattle.board_record.specs.declared.State.{State}
 use Rattle.board_record.specs.declared.State.TheVariants.{Idle, Preparing, HalfPrepared, Ready, Gathering, Together, Alone, HalfActivated, Dead, Withdrawn}
-use Rattle.rules.specs.Calls.{returned, says, skips, arrival_of, skip_right, fields_right, join_of, try_activate_of, activate_by, activate_of, answer_of, call_of as call_rules}
+use Rattle.rules.specs.Calls.{returned, says, arrival_of, skip_right, fields_right, join_of, try_activate_of, activate_by, activate_of, answer_of, call_of as call_rules}
 use Rattle.rules.specs.Decide.{decide_of}
 use Rattle.rules.specs.Numbers.{decode_of}
 use Rattle.rules.specs.Table.{rule_of}
@@ -25,7 +25,7 @@ use Rattle.rules.specs.declared.Move.{Move}
 use Rattle.rules.specs.declared.Move.TheVariants.{Refuse, StartTogether, StartAlone, Gather}
 use Rattle.rules.specs.declared.Refusal.TheVariants.{NotWellFormed, TableShort, NoSuchCpu, CpuOff, CpuHeld}
 use Rattle.agent.specs.Perform.{refused_of, accepted_of, joined_of, perform_of}
-use Rattle.agent.specs.Step.{step_of, stepped}
+use Rattle.agent.specs.Step.{step_of}
 use Rattle.agent.specs.declared.Answer.{Answer}
 use Rattle.agent.specs.declared.Outcome.TheVariants.{Accepted}
 use Rattle.reader.specs.declared.Started.{Started}
@@ -36,7 +36,7 @@ use Rattle.reason.specs.Explained.{outcome_at}
 use Rattle.reason.specs.Numbers.{number_of, answer_for}
 use Rattle.reason.specs.declared.Activate.{Activate}
 use Rattle.reason.specs.declared.Reason.{Reason}
-use Rattle.reason.specs.declared.Reason.TheVariants.{NothingPrepared, BeingPrepared, HalfPrepared, BoardDead, OtherComponent, OtherFlags, NotOptional, SkipInGathering, NoSkip, BadEntry, BeingActivated, Skipped, Held, AllPresent}
+use Rattle.reason.specs.declared.Reason.TheVariants.{HalfPrepared, OtherComponent, OtherFlags, NotOptional, SkipInGathering, NoSkip, BadEntry, BeingActivated, Skipped, Held, AllPresent}
 
 -- only "all present" is the start of a rendezvous activation
 abbrev pub started_by : Reason → ℕ → Started

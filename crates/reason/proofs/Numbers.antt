@@ -19,7 +19,6 @@ use Rattle.rules.specs.Statuses.{number_of as call_number}
 use Rattle.rules.specs.declared.Event.{Event}
 use Rattle.rules.specs.declared.Event.TheVariants as event
 use Rattle.rules.proofs.Moves.{number-some}
-use Rattle.agent.specs.Step.{stepped}
 use Rattle.agent.specs.Numbers.{refused_with as only_refused, accepted_with, said_of}
 use Rattle.agent.specs.declared.Outcome.{Outcome}
 use Rattle.agent.specs.declared.Outcome.TheVariants.{Refused, Accepted}

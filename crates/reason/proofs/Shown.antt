@@ -2,7 +2,7 @@
 -- (Answered.antt), the missing are told by membership, and of own logs the walk is the run (history's Own.antt). Assumes nothing.
 use Prim.Native.Nat.{ℕ, ◌<◌, ◌≤◌}
 use mathlib.Core.Path.{◌≡◌, refl, sym, ap, subst, ◌∙◌}
-use mathlib.Core.Bool.{Bool, true, false, not, ◌&&◌}
+use mathlib.Core.Bool.{Bool, true, false, not}
 use mathlib.Core.List.{List, [], ◌∷◌, ◌++◌, map}
 use mathlib.Core.Logic.{◌↔◌}
 use native.Mathlib.Omega.{arith}
@@ -13,7 +13,7 @@ use Rattle.basics.specs.Choice.{pick, refuted, not-both, both, never}
 use Rattle.basics.specs.Every.{all_below, all-at}
 use Rattle.basics.specs.First.{first_of, IsFirst}
 use Rattle.basics.proofs.First.{first-given, first-known}
-use Rattle.cpuset.specs.Set.{has_of, none_of, with_of, without_of, less_of, same_of}
+use Rattle.cpuset.specs.Set.{has_of, none_of, without_of, less_of, same_of}
 use Rattle.cpuset.specs.Laws.{has-less, set-less, set-without, some-has, without-self, without_other}
 use Rattle.cpuset.specs.declared.CpuSet.{CpuSet}
 use Rattle.board.specs.Packed.{accepted, read_of}
@@ -41,7 +41,7 @@ use Rattle.trace.specs.Run.{run, log_of, AllTyped, started_in, agent_starts}
 use Rattle.trace.specs.Steady.{Some}
 use Rattle.trace.proofs.Agreed.{all-present}
 use Rattle.trace.proofs.Demand.{demand-3}
-use Rattle.history.specs.Walk.{walked, walked_of}
+use Rattle.history.specs.Walk.{walked_of}
 use Rattle.history.specs.declared.Ended.{Ended}
 use Rattle.history.specs.declared.Ended.TheVariants.{Agrees, Departs, BoardRefused, LogRefused}
 use Rattle.history.specs.declared.Walked.{Walked}
@@ -52,11 +52,10 @@ use Rattle.reason.specs.Explained.{called_by, outcome_at, called_of, explained_b
 use Rattle.reason.specs.Numbers.{number_of, answer_for}
 use Rattle.reason.specs.Shown.{IsAsked, past, IsMissing, Shown, Own}
 use Rattle.reason.specs.declared.Activate.{Activate}
-use Rattle.reason.specs.declared.Explained.{Explained}
 use Rattle.reason.specs.declared.Explained.TheVariants.{Because, CallRefused}
 use Rattle.reason.specs.declared.Reason.{Reason}
 use Rattle.reason.specs.declared.Reason.TheVariants.{Held, AllPresent}
-use Rattle.reason.proofs.Answered.{started_by, Fits, accepted-fits}
+use Rattle.reason.proofs.Answered.{started_by, accepted-fits}
 use Rattle.reason.proofs.Numbers.{outcome-number}
 
 -- ---- the reasons of two rules are never the same: their numbers differ, by one test over all pairs of rows

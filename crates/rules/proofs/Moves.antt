@@ -28,7 +28,6 @@ use Rattle.rules.specs.Decide.{event_of, decide_of}
 use Rattle.rules.specs.Moves.{refused_with, told_as, status_of, activate_status, numbers_of, rows_for, event_rows, is_told, Decided}
 use Rattle.rules.specs.declared.Event.{Event}
 use Rattle.rules.specs.declared.Event.TheVariants as event
-use Rattle.rules.specs.declared.Image.{Image}
 use Rattle.rules.specs.declared.Move.{Move}
 use Rattle.rules.specs.declared.Move.TheVariants.{Refuse, Return, NoteInfo, StartPrime, Gather, StartTogether, StartAlone, ToIdle, Withdraw, PowerOff, PowerOn, EndPrime, EndWithdrawn, EndActivate, NoteImage}
 use Rattle.rules.specs.declared.Refusal.{Refusal}

@@ -4,7 +4,6 @@ use native.Mathlib.Omega.{arith}
 use borrow.Author.Rules.{rules}
 use Rattle.basics.specs.Places.{firsts, table_more}
 use Rattle.board.specs.Description.{most_components, blank}
-use Rattle.board.specs.Packed.{component_at}
 use Rattle.board.proofs.reading.components_at.Goals as goal
 
 pub loop-i-init : goal.loop-i-init

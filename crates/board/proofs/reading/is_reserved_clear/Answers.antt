@@ -1,6 +1,5 @@
 -- The head's bits first, then by the loop's invariant: those of the first i components are clear; one that isn't clear makes it false.
 use mathlib.Core.Path.{◌≡◌, sym, ◌∙◌}
-use mathlib.Core.Bool.{true}
 use borrow.Author.Rules.{rules}
 use borrow.Author.Tests.{eq-eqb, ne_eqb}
 use Rattle.basics.specs.Every.{all_none, all_more, all-fails, all_done}

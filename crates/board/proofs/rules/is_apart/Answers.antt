@@ -1,6 +1,5 @@
 -- By the loop's invariant: the first i components pass `parted`; one that doesn't makes it false, and at the end all have passed.
 use borrow.Author.Rules.{rules}
-use mathlib.Core.Bool.{true}
 use Rattle.basics.specs.Choice.{by}
 use Rattle.basics.specs.Every.{all_none, all_more, all-fails, all_done}
 use Rattle.board.proofs.rules.is_apart.Goals as goal

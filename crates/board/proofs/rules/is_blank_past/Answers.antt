@@ -1,9 +1,7 @@
 -- By the loop's invariant: the first j places past the count are blank; one that isn't makes it false, and at the end all are.
 use borrow.Author.Rules.{rules}
-use mathlib.Core.Bool.{true}
 use Rattle.basics.specs.Choice.{by}
 use Rattle.basics.specs.Every.{all_none, all_more, all-fails, all_done}
-use Rattle.board.specs.Description.{is_blank}
 use Rattle.board.proofs.rules.is_blank_past.Goals as goal
 
 pub loop-j-init : goal.loop-j-init

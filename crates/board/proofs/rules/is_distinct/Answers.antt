@@ -1,6 +1,5 @@
 -- By the loop's invariant: the first i UUIDs differ and their marks are met; an unmet mark's UUID is new, and a met one's is looked for.
 use borrow.Author.Rules.{rules}
-use mathlib.Core.Bool.{true}
 use Rattle.basics.specs.Choice.{by}
 use Rattle.basics.specs.Every.{all_none, all_more, all-fails, all_done}
 use Rattle.board.proofs.Marks.{met-none, unmet-unseen, met-again, met-more}

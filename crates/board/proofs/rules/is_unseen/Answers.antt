@@ -1,6 +1,6 @@
 -- By the loop's invariant: the first j UUIDs are unlike the one at i; one that is the same makes it false, and at the end none is.
 use mathlib.Core.Path.{ap}
-use mathlib.Core.Bool.{true, not}
+use mathlib.Core.Bool.{not}
 use borrow.Author.Rules.{rules}
 use Rattle.basics.specs.Choice.{by}
 use Rattle.basics.specs.Every.{all_none, all_more, all-fails, all_done}

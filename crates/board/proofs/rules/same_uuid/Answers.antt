@@ -1,5 +1,4 @@
 -- By the loop's invariant: the first k bytes are the same; one that differs makes it false, and at the end all sixteen are the same.
-use mathlib.Core.Bool.{true}
 use borrow.Author.Rules.{rules}
 use borrow.Author.Tests.{eq-eqb, ne_eqb}
 use Rattle.basics.specs.Every.{all_none, all_more, all-fails, all_done}

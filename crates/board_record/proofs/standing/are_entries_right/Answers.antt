@@ -1,6 +1,5 @@
 -- By the loop's invariant: the first i places of both tables stand; one that doesn't makes it false, and at the end all do.
 use borrow.Author.Rules.{rules}
-use mathlib.Core.Bool.{true}
 use Rattle.basics.specs.Choice.{by}
 use Rattle.basics.specs.Every.{all_none, all_more, all-fails, all_done}
 use Rattle.board_record.specs.WellFormed.{entries_stand}

@@ -1,6 +1,5 @@
 -- One case for each of the five answers: told which it is, `why_by` computes to what the calls there promise.
 use mathlib.Core.Path.{sym}
-use Rattle.rules.proofs.number.Reads as number-reads'
 use Rattle.flat.proofs.reasons.explained.Goals as goal
 
 pub returns-in-Because : goal.returns-in-Because

@@ -1,5 +1,4 @@
 -- By the loop's invariant: the first i are 0 or 1; one that isn't makes it false, and at the end all are.
-use mathlib.Core.Bool.{true}
 use borrow.Author.Rules.{rules}
 use Rattle.basics.specs.Every.{all_none, all_more, all-fails, all_done}
 use borrow.Author.Tests.{le-leb, lt-leb}

@@ -1,9 +1,7 @@
 -- By the loop's invariant: the first i have flags that are 0 or 1; one that doesn't makes it false, and at the end all do.
-use mathlib.Core.Bool.{true}
 use borrow.Author.Rules.{rules}
 use Rattle.basics.specs.Every.{all_none, all_more, all-fails, all_done}
 use Rattle.basics.specs.Choice.{by}
-use Rattle.flat.specs.Records.{is_flat_component}
 use Rattle.flat.proofs.records.are_flat_components.Goals as goal
 
 pub loop-i-init : goal.loop-i-init

@@ -4,7 +4,7 @@ use native.Mathlib.Omega.{arith}
 use borrow.Author.Rules.{rules}
 use Rattle.basics.specs.Places.{firsts, table_more, table-full}
 use Rattle.board.specs.Description.{most_components}
-use Rattle.flat.specs.Records.{flat_component, blank_flat, flat_components}
+use Rattle.flat.specs.Records.{blank_flat, flat_components}
 use Rattle.flat.proofs.records.flat_components.Goals as goal
 
 pub loop-i-init : goal.loop-i-init
