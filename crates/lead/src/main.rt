@@ -52,7 +52,7 @@ fn refused(rt: &impl Print, lead: Lead, delivery: &[u8], x: Refusal) -> io::Resu
     refusal(rt, x)
 }
 
-// The lines of what a delivery gives, and the reader after it.
+// The lines of what a delivery gives, and the reader after it, unless a line can't be written.
 fn deliver(rt: &impl Print, first: Lead, delivery: &[u8]) -> io::Result<Lead>
     ensures { IfOk result (λ lead. lead ≡ (delivered first delivery.now).lead) }
 {
