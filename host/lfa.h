@@ -11,7 +11,7 @@
  * What the host owes:
  * - It asks lfa_fits before anything else. A library that was built for another record would write past this one.
  * - It is an x86-64 host with the System V convention, or an AArch64 one, little-endian, with that of AAPCS64; size_t has 8 bytes,
- *   and structs are not packed. Each has its own library: target/staticlib/libmonitor.a by `rt staticlib monitor`, and
+ *   and structs are not packed. Each has its own library: target/staticlib/libmonitor.a by host/c/build, and
  *   target/arm/libmonitor.a by host/arm/build. On x86-64 gcc and clang call right by LFA_CALL, whatever their own convention is;
  *   with another compiler the host sees to it.
  * - Its stack is aligned to 16 bytes at a call, as both conventions have it, and has room for what LFA_STACK_ says.

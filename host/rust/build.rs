@@ -1,5 +1,5 @@
-//! Links the proved library for the target's machine: what `rt staticlib monitor` writes, and for AArch64 what `host/arm/build`
-//! does. LFA_LIBRARY names another folder that has it.
+//! Links the proved library for the target's machine: what `host/c/build` makes, and for AArch64 what
+//! `host/arm/build` does. LFA_LIBRARY names another folder that has it.
 
 use std::env;
 use std::path::PathBuf;
