@@ -25,7 +25,7 @@ room = word_count * 64
 abbrev pub word : CpuSet → ℕ → ℕ
 word s k = get_or (words s) k 0
 
--- what the type gives every set of a program, that each word is below 2 ^ 64: `search needs` shows it under `unfolding Set`
+-- what the type gives every set of a program, that each word is below 2 ^ 64: `search rules` shows it under `unfolding Set`
 unfoldable pub Set : CpuSet → Type 0
 Set s = Words (words s)
 
