@@ -132,6 +132,7 @@ fn put_bytes(s: &mut [u8], k: usize, n: usize, v: u64)
 }
 
 // The same for any numbers: says whether the bytes lie in s and are at most a word's, and writes nothing where not.
+#[tactic(auto, unfolding(crate::specs::Bits::room_for, crate::specs::Bits::written))]
 pub fn write(s: &mut [u8], k: usize, n: usize, v: u64) -> bool
     ensures value { result ≡ room_for s.old k n }
     ensures s_after { s.new ≡ written s.old k n v }

@@ -17,29 +17,11 @@ overflow_mul-v c =
     let l = c.loop-i in
     omega (arith, next_fits _ l.i l.v (omega arith) l.invariant.1)
 
-pub overflow_sub-n : goal.overflow_sub-n
-overflow_sub-n c = omega arith
-
-pub overflow_sub-n-in-loop-i : goal.overflow_sub-n-in-loop-i
-overflow_sub-n-in-loop-i c = omega arith
-
-pub overflow_add-k : goal.overflow_add-k
-overflow_add-k c = omega arith
-
-pub bounds-s-k : goal.bounds-s-k
-bounds-s-k c = omega arith
-
 pub overflow_add-v : goal.overflow_add-v
 overflow_add-v c =
     let l = c.loop-i in
     let b : c.wide.result < 256 = rw c.wide.ensures (c.type_inv.s _).fits in
     omega (arith, b, next_fits _ l.i l.v (omega arith) l.invariant.1)
-
-pub overflow_add-i : goal.overflow_add-i
-overflow_add-i c = omega arith
-
-pub loop-i-smaller : goal.loop-i-smaller
-loop-i-smaller c = omega arith
 
 pub loop-i-preserved : goal.loop-i-preserved
 loop-i-preserved c =
