@@ -292,6 +292,7 @@ fn ended(rec: Record, p: Report) -> Record
     }
 }
 
+#[tactic(auto, unfolding(crate::specs::Perform::released_of))]
 fn released(held: CpuSet, code: u64) -> Release
     ensures { result ≡ released_of held code }
 {
