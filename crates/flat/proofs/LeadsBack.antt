@@ -18,7 +18,7 @@ use Rattle.deliveries.specs.declared.Standing.TheVariants.{Open, Closed, Refused
 use Rattle.deliveries.specs.declared.Refusal.{Refusal}
 use Rattle.deliveries.specs.declared.Refusal.TheVariants.{NoReader, AfterClose, Log}
 use Rattle.deliveries.specs.declared.Given.{Given}
-use Rattle.deliveries.specs.declared.Given.TheVariants as goal
+use Rattle.deliveries.specs.declared.Given.TheVariants as given
 use Rattle.deliveries.specs.declared.Ending.{Ending}
 use Rattle.deliveries.specs.declared.Ending.TheVariants as ending
 use Rattle.deliveries.specs.declared.Lead.{Lead}
@@ -104,10 +104,10 @@ after-known NoReader f l k = absurd (k refl)
 after-known AfterClose f l k = refl
 after-known (Log x) f l k = refl
 
-given-known : (g : Given) (f : FlatLead) (l : Lead) → (g ≡ goal.Refused NoReader → ⊥) → lead_given g f l ≡ flat_lead l
-given-known goal.Nothing f l k = refl
-given-known (goal.Record r) f l k = refl
-given-known (goal.Refused x) f l k = after-known x f l (λ e. k (ap goal.Refused e))
+given-known : (g : Given) (f : FlatLead) (l : Lead) → (g ≡ given.Refused NoReader → ⊥) → lead_given g f l ≡ flat_lead l
+given-known given.Nothing f l k = refl
+given-known (given.Record r) f l k = refl
+given-known (given.Refused x) f l k = after-known x f l (λ e. k (ap given.Refused e))
 
 ended-known : (e : Ending) (f : FlatLead) (l : Lead) → (e ≡ ending.Refused NoReader → ⊥) → lead_ended e f l ≡ flat_lead l
 ended-known (ending.Records n) f l k = refl
