@@ -1,4 +1,4 @@
--- The promise of each public function but `read_file` leaves one outcome (docs/DECISIONS.md, "Pins"), whatever it says things to.
+-- The promise of each public function but `read_file` and `fill` leaves one outcome (docs/DECISIONS.md, "Pins"), whatever it says things to.
 -- Assumes nothing.
 use mir.Syntax.{Dict}
 use denote.RattleType.{RattleType}

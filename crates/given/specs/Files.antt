@@ -1,5 +1,5 @@
 -- How much of a buffer a file that was read takes. Assumes nothing.
-use Rattle.std.specs.Prelude.{◌≡◌, ℕ, ◌≤◌, List, length, take}
+use Rattle.std.specs.Prelude.{◌≡◌, ℕ, ◌≤◌, List, length, take, Option, IfSome}
 use Rattle.given.specs.declared.File.{File}
 use Rattle.given.specs.declared.File.TheVariants.{Bytes, Unread}
 
@@ -11,3 +11,8 @@ IsPrefixLen n buf = (n ≤ length buf) × (n ≡ length (take n buf))
 abbrev pub IsIn : File → List ℕ → Type 0
 IsIn (Bytes n) buf = IsPrefixLen n buf
 IsIn Unread buf = Unit
+
+-- what was read is what the input had, as far as the buffer goes, where that is known
+abbrev pub HasRead : Option (List ℕ) → File → List ℕ → Type 0
+HasRead known (Bytes n) buf = IfSome known (λ xs. take n buf ≡ take (length buf) xs)
+HasRead known Unread buf = Unit

@@ -1,5 +1,8 @@
-// The file that an argument names.
-ghost use Rattle.given.specs.Files.{IsIn, IsPrefixLen};
+// The file that an argument names, and what is read of a file or another input.
+ghost use Rattle.std.specs.Prelude.{take};
+ghost use Rattle.std.specs.Bool.{OnTrue};
+ghost use Rattle.std.specs.Io.KnownBytes.{Consumes, IsAtEnd};
+ghost use Rattle.given.specs.Files.{HasRead, IsIn, IsPrefixLen};
 
 use crate::{File, say};
 use std::env::FillError;
@@ -32,8 +35,9 @@ pub(crate) fn open<R: Files>(rt: &R, name: &[u8]) -> Option<R::File> {
 }
 
 // Reads until the buffer is full, the file ends or a read fails, and answers how many bytes are at the buffer's start.
-fn read_full(file: &mut impl Read, buf: &mut [u8]) -> usize
-    ensures { IsPrefixLen result buf.new }
+fn read_full<R: Read>(file: &mut R, buf: &mut [u8]) -> usize
+    ensures within { IsPrefixLen result buf.new }
+    ensures bytes { Consumes (R.remaining file.old) (R.remaining file.new) (take result buf.new) }
 {
     let mut done: usize = 0;
     while done < buf.len() {
@@ -47,14 +51,17 @@ fn read_full(file: &mut impl Read, buf: &mut [u8]) -> usize
 }
 
 // Whether a file has ended, and not failed.
-fn is_at_end(file: &mut impl Read) -> bool {
+fn is_at_end<R: Read>(file: &mut R) -> bool
+    ensures { OnTrue result (IsAtEnd (R.remaining file.old)) }
+{
     let mut byte = [0u8; 1];
     matches!(file.read(&mut byte), Ok(0))
 }
 
-// Fills a buffer from an open file, as far as that goes.
-pub(crate) fn fill(stderr: &impl Print, file: &mut impl Read, name: &[u8], buf: &mut [u8]) -> File
-    ensures { IsIn result buf.new }
+// Fills a buffer from an open file, or another input, as far as that goes. One that breaks off is unread.
+pub fn fill<R: Read>(file: &mut R, buf: &mut [u8]) -> File
+    ensures within { IsIn result buf.new }
+    ensures reads { HasRead (R.remaining file.old) result buf.new }
 {
     let n = read_full(file, buf);
     if n == buf.len() {
@@ -63,6 +70,5 @@ pub(crate) fn fill(stderr: &impl Print, file: &mut impl Read, name: &[u8], buf: 
     if is_at_end(file) {
         return File::Bytes(n);
     }
-    say_unread(stderr, name);
     File::Unread
 }

@@ -1,4 +1,4 @@
-// What the words of a program's command line give it: the bytes of a file, or a number.
+// What a program is given: by the words of its command line the bytes of a file, or a number; and what an input has.
 #![tactic(auto)]
 
 mod digits;
@@ -8,6 +8,7 @@ ghost use Rattle.std.specs.Prelude.{◌≡◌};
 ghost use Rattle.given.specs.Files.{IsIn};
 ghost use Rattle.given.specs.Numerals.{numeral_of};
 
+pub use files::fill;
 use std::rt::{Env, Files};
 
 // Room for any word: Linux passes none of 131,072 bytes or more. One that does not fit is no number.
@@ -48,13 +49,14 @@ pub fn read_file<R: Env + Files>(rt: &R, stderr: &impl Print, i: usize, buf: &mu
 {
     let mut path = [0u8; PATH_ROOM];
     let n = files::name(rt, i, &mut path);
-    match files::open(rt, &path[..n]) {
-        Some(mut file) => files::fill(stderr, &mut file, &path[..n], buf),
-        None => {
-            files::say_unread(stderr, &path[..n]);
-            File::Unread
-        }
+    let read = match files::open(rt, &path[..n]) {
+        Some(mut file) => fill(&mut file, buf),
+        None => File::Unread,
+    };
+    if let File::Unread = read {
+        files::say_unread(stderr, &path[..n]);
     }
+    read
 }
 
 // The number that a word says: in hex digits after `0x`, else in decimal ones.

@@ -1,14 +1,14 @@
 // reads a log from standard input and writes which component is prepared at each place of it
 #![tactic(auto)]
 
-ghost use Rattle.std.specs.Prelude.{◌≡◌, ◌≤◌, length};
+ghost use Rattle.std.specs.Prelude.{◌≡◌};
 ghost use Rattle.log_book.specs.Log.{past_of, checked_of};
 ghost use Rattle.log_book.specs.declared.Checked.TheVariants.{Records, Refused};
 ghost use Rattle.log_book.specs.Prepared.{prepared_of};
 
+use given::File;
 use log_book::{Checked, Flaw, MOST_BYTES, Prepared, Primed};
 use std::io;
-use std::io::Read;
 
 // One byte more than the longest log: a log that fills it is too long, whatever follows.
 const ROOM: usize = MOST_BYTES + 1;
@@ -77,34 +77,10 @@ fn replay(rt: &impl Print, log: &[u8]) -> io::Result<()> {
     }
 }
 
-// Reads until the buffer is full, the input ends or a read fails, and answers how many bytes are at the buffer's start.
-fn read_full(input: &mut impl Read, buf: &mut [u8]) -> usize
-    ensures { result ≤ length buf.new }
-{
-    let mut done: usize = 0;
-    while done < buf.len() {
-        match input.read(&mut buf[done..]) {
-            Ok(0) => break,
-            Ok(n) => done += n,
-            Err(_) => break,
-        }
-    }
-    done
-}
-
-// Whether the input has ended, and not failed.
-fn is_at_end(input: &mut impl Read) -> bool {
-    let mut byte = [0u8; 1];
-    matches!(input.read(&mut byte), Ok(0))
-}
-
 fn main(rt: HostRuntime) -> io::Result<()> {
     let mut buf = [0u8; ROOM];
-    let mut input = rt.stdin();
-    let n = read_full(&mut input, &mut buf);
-    if n == ROOM || is_at_end(&mut input) {
-        replay(&rt, &buf[..n])
-    } else {
-        rt.eprintln("cannot read standard input")
+    match given::fill(&mut rt.stdin(), &mut buf) {
+        File::Bytes(n) => replay(&rt, &buf[..n]),
+        File::Unread => rt.eprintln("cannot read standard input"),
     }
 }
