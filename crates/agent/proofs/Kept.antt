@@ -1,4 +1,5 @@
 -- Every step keeps a well-formed record well formed: move by move, clause by clause, from the facts where it is decided. Assumes nothing.
+use Rattle.std.specs.Prelude.{None, Some}
 use Prim.Native.Nat.{ℕ, ◌<◌, ◌≤◌}
 use mathlib.Core.Path.{◌≡◌, refl, sym, ap, subst, ◌∙◌}
 use mathlib.Core.Bool.{Bool, true, false, ◌&&◌}
@@ -25,7 +26,6 @@ use Rattle.board_record.specs.declared.Record.{Record}
 use Rattle.board_record.specs.declared.State.{State}
 use Rattle.board_record.specs.declared.State.TheVariants.{Idle, Preparing, HalfPrepared, Ready, Gathering, Together, Alone, HalfActivated, Dead}
 use Rattle.board_record.specs.declared.Holding.TheVariants.{One}
-use Rattle.board_record.specs.declared.Subject.TheVariants as subject
 use Rattle.rules.specs.declared.Arrival.{Arrival}
 use Rattle.rules.specs.declared.Event.{Event}
 use Rattle.rules.specs.declared.Move.{Move}
@@ -45,12 +45,12 @@ use Rattle.agent.proofs.Laws.{one-held, apart-held, places-put, joined-others, j
 -- ---- each move
 module _ (r : Record) (w : WellFormed r) (z : Sized r) where
   -- the state's component stands, and so it does with or without rendezvous
-  mine : (c : ℕ) → subject_of r.state ≡ subject.Of c
+  mine : (c : ℕ) → subject_of r.state ≡ Some c
       → subject_stands (numbered_of r.board c) (skips_rendezvous r.state) (is_pending r.pending c) (version_of r.version c) ≡ true
   unfolding state_stands
   mine c q = rw q at w.state
 
-  still : (alone : Bool) (c : ℕ) → subject_of r.state ≡ subject.Of c → pick alone (numbered_of r.board c).optional true ≡ true
+  still : (alone : Bool) (c : ℕ) → subject_of r.state ≡ Some c → pick alone (numbered_of r.board c).optional true ≡ true
       → subject_stands (numbered_of r.board c) alone (is_pending r.pending c) (version_of r.version c) ≡ true
   still alone c q o = subject-as (numbered_of r.board c) (skips_rendezvous r.state) alone _ _ o (mine c q)
 
@@ -297,7 +297,7 @@ noted r now w z = (
 )
 
 -- a done activation: its image is pending no more
-forgotten-kept : (r : Record) → WellFormed r → Sized r → subject_of r.state ≡ subject.Nothing → (id : ℕ) → Keeps (forgotten_of r id)
+forgotten-kept : (r : Record) → WellFormed r → Sized r → subject_of r.state ≡ None → (id : ℕ) → Keeps (forgotten_of r id)
 unfolding image_stands state_stands
 forgotten-kept r w z none id =
     noted (imaged_of r id false 0) false (imaged-kept r id false 0 w z refl (rw none)) (imaged-sized r id false 0 z)
@@ -345,7 +345,7 @@ after_kept [] r w z = (w, z)
 after_kept (e ∷ es) r w z = let k = step_kept r e most_cpus most_cpus w z in after_kept es (stepped r e).rec k.0 k.1
 
 -- so no image below its SVN is ever prepared or activated: the state's component has one at least at it
-pub never-below : (b : Board) → board_stands b ≡ true → (es : List Event) (c : ℕ) → subject_of (after (fresh_of b) es).state ≡ subject.Of c
+pub never-below : (b : Board) → board_stands b ≡ true → (es : List Event) (c : ℕ) → subject_of (after (fresh_of b) es).state ≡ Some c
     → (numbered_of (after (fresh_of b) es).board c).svn ≤ version_of (after (fresh_of b) es).version c
 unfolding state_stands subject_stands
 never-below b s es c q =

@@ -1,5 +1,6 @@
 -- What keeps each clause of a well-formed record: the held CPUs by how they are held, tables place by place, the state by a report's code.
 -- Assumes nothing.
+use Rattle.std.specs.Prelude.{None, Option, Some}
 use Prim.Native.Nat.{ℕ, ◌<◌}
 use mathlib.Core.Path.{◌≡◌, refl}
 use mathlib.Core.Bool.{Bool, true, false, ◌&&◌}
@@ -26,8 +27,6 @@ use Rattle.board_record.specs.declared.Holding.{Holding}
 use Rattle.board_record.specs.declared.Holding.TheVariants.{Nobody, One, Part, All}
 use Rattle.board_record.specs.declared.State.{State}
 use Rattle.board_record.specs.declared.State.TheVariants.{Idle, HalfPrepared, Ready, HalfActivated, Dead}
-use Rattle.board_record.specs.declared.Subject.{Subject}
-use Rattle.board_record.specs.declared.Subject.TheVariants as subject
 use Rattle.rules.specs.declared.Report.{Report}
 use Rattle.rules.proofs.States.{Gatherable, first_one, one-more}
 use Rattle.agent.specs.Perform.{after_prime, after_activate, is_done}
@@ -97,10 +96,10 @@ subject-optional c alone pending version e a =
     let h : pick alone c.optional true ≡ true = and_right (leb c.svn version) _ (and_right pending _ e) in rw a at h
 
 -- an image of another component leaves the state's as it was
-pub other-image : (b : Board) (pending : List Bool) (version : List ℕ) (alone : Bool) (s : Subject) (i : ℕ) (now : Bool) (v : ℕ) → is_about s i ≡ false
+pub other-image : (b : Board) (pending : List Bool) (version : List ℕ) (alone : Bool) (s : Option ℕ) (i : ℕ) (now : Bool) (v : ℕ) → is_about s i ≡ false
     → stands_by b pending version alone s ≡ true → stands_by b (set pending i now) (set version i v) alone s ≡ true
-other-image b pending version alone subject.Nothing i now v o e = refl
-other-image b pending version alone (subject.Of c) i now v o e =
+other-image b pending version alone None i now v o e = refl
+other-image b pending version alone (Some c) i now v o e =
     let d = eqb-false c i o in rw (get_or-set_other pending i c now false d, get_or-set_other version i c v 0 d) e
 
 -- ---- the state after a report, by its code
@@ -121,6 +120,6 @@ module _ (P : State → Type 0) (p : Report) where
       (λ u. pick-cases P (eqb p.code 5) _ _ (λ v. (ended t u).0) (λ v. (ended t u).1)))
 
 -- a done activation leaves the state idle
-pub done-idle : (p : Report) → is_done p.code ≡ true → subject_of (after_activate p) ≡ subject.Nothing
+pub done-idle : (p : Report) → is_done p.code ≡ true → subject_of (after_activate p) ≡ None
 unfolding is_done after_activate
 done-idle p d = or_cases (eqb p.code 0) (eqb p.code by_reset) d (λ t. rw (eqb-true p.code 0 t)) (λ t. rw (eqb-true p.code by_reset t))

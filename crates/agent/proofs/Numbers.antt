@@ -1,4 +1,5 @@
 -- What an event answers in document 01's numbers: move by move what the move's own numbers say, and these go by the table. Assumes nothing.
+use Rattle.std.specs.Prelude.{Err, Ok, Result}
 use Prim.Native.Nat.{ℕ}
 use mathlib.Core.Path.{◌≡◌, refl, sym, ◌∙◌}
 use mathlib.Core.Bool.{Bool, true, false}
@@ -26,9 +27,9 @@ use Rattle.agent.specs.Perform.{refused_of, accepted_of, freed_of, reported_of, 
 use Rattle.agent.specs.Step.{step_of}
 use Rattle.agent.specs.Numbers.{with_status, freed_by, Said, refused_with, accepted_with, said_of, released_with, release_for, Parts, Answers}
 use Rattle.agent.specs.declared.Caller.TheVariants as caller
-use Rattle.agent.specs.declared.Outcome.{Outcome}
-use Rattle.agent.specs.declared.Outcome.TheVariants.{Refused, Accepted}
 use Rattle.agent.specs.declared.Release.TheVariants as release
+use Rattle.agent.specs.declared.Answer.{Answer}
+use Rattle.rules.specs.declared.Refusal.{Refusal}
 
 -- ---- what a move answers is what its own numbers say: its refusal, its outcome where that is a call's, and X0 that is given
 pub record Agrees (s : Said) (m : moves.Numbers) : Type 0 where
@@ -72,7 +73,7 @@ performed-says r (move.NoteImage i) = record { refusal = refl; caller = refl; gi
 
 -- ---- what is accepted has its parts
 
-prime-said : (held : CpuSet) (code : ℕ) → said_of (Accepted (record { caller = caller.Nothing; release = reported_of held code })) ≡ released_with with_status held (status_of code) (again_of code)
+prime-said : (held : CpuSet) (code : ℕ) → said_of (Ok (record { caller = caller.Nothing; release = reported_of held code })) ≡ released_with with_status held (status_of code) (again_of code)
 unfolding status_of reported_of accepted_with released_with
 prime-said held code = go (eqb code 1)
   where
@@ -80,7 +81,7 @@ prime-said held code = go (eqb code 1)
     go true = refl
     go false = refl
 
-activate-said : (held : CpuSet) (code : ℕ) → said_of (Accepted (record { caller = caller.Nothing; release = released_of held code })) ≡ released_with (release_for code) held (activate_status code) (again_of code)
+activate-said : (held : CpuSet) (code : ℕ) → said_of (Ok (record { caller = caller.Nothing; release = released_of held code })) ≡ released_with (release_for code) held (activate_status code) (again_of code)
 unfolding activate_status released_of accepted_with released_with
 activate-said held code = eq-cases code by_reset (λ q. rw q) (λ d. rw (ne_eqb code by_reset d) (prime-said held code))
 
@@ -102,10 +103,10 @@ parts_said r e move.EndWithdrawn g z = rw (g.event, priming-is g.running)
 parts_said r e (move.EndActivate p) g z = rw g.event (activate-said r.held p.code)
 parts_said r e (move.NoteImage i) g z = rw g.event
 
-refused-only : (o : Outcome) → ((said_of o).refusal ≡ 0 → ⊥) → said_of o ≡ refused_with (said_of o).refusal
+refused-only : (o : Result Answer Refusal) → ((said_of o).refusal ≡ 0 → ⊥) → said_of o ≡ refused_with (said_of o).refusal
 unfolding refused_with accepted_with
-refused-only (Refused x) d = refl
-refused-only (Accepted a) d = absurd (d refl)
+refused-only (Err x) d = refl
+refused-only (Ok a) d = absurd (d refl)
 
 pub step-answers : (r : Record) (e : Event) (entries contexts : ℕ) → Answers r e entries contexts (said_of (step_of r e entries contexts).outcome)
 unfolding step_of

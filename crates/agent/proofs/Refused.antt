@@ -1,5 +1,6 @@
 -- A refused event changes nothing, and 9 comes only where the record is not well formed: only `Refuse` refuses, and its facts say so.
 -- How long the tables are matters only up to the CPU count, since two tests against it are all that asks. Assumes nothing.
+use Rattle.std.specs.Prelude.{Err, Ok, Result}
 use Prim.Native.Nat.{ℕ, ◌≤◌}
 use mathlib.Core.Path.{◌≡◌, refl, ap, subst}
 use mathlib.Core.Bool.{true}
@@ -28,16 +29,14 @@ use Rattle.rules.proofs.Guards.{decide-guard}
 use Rattle.agent.specs.Perform.{refused_of, accepted_of, perform_of}
 use Rattle.agent.specs.Step.{step_of, stepped, resuming_of, filled, entries_of, contexts_of, after}
 use Rattle.agent.specs.declared.Answer.{Answer}
-use Rattle.agent.specs.declared.Outcome.{Outcome}
-use Rattle.agent.specs.declared.Outcome.TheVariants.{Refused, Accepted}
 use Rattle.agent.proofs.Written.{written-nobody}
 use Rattle.agent.proofs.Kept.{after_kept}
 
-no_answer : {A : Type 0} (a : Answer) (x : Refusal) → Accepted a ≡ Refused x → A
+no_answer : {A : Type 0} (a : Answer) (x : Refusal) → Ok a ≡ Err x → A
 no_answer a x e = never cc
 
 -- only a refusal refuses
-refused-is : (r : Record) (m : Move) (x : Refusal) → (perform_of r m).outcome ≡ Refused x → m ≡ move.Refuse x
+refused-is : (r : Record) (m : Move) (x : Refusal) → (perform_of r m).outcome ≡ Err x → m ≡ move.Refuse x
 unfolding refused_of accepted_of
 refused-is r (move.Refuse y) x e = cc
 refused-is r (move.Return y) x e = no_answer _ x e
@@ -56,12 +55,12 @@ refused-is r (move.EndActivate p) x e = no_answer _ x e
 refused-is r (move.NoteImage i) x e = no_answer _ x e
 
 -- the tables where nobody resumes
-stays : (o : Outcome) (x : Refusal) (from table : List ℕ) → o ≡ Refused x → filled (resuming_of o) from table ≡ table
+stays : (o : Result Answer Refusal) (x : Refusal) (from table : List ℕ) → o ≡ Err x → filled (resuming_of o) from table ≡ table
 stays o x from table e = rw e (written-nobody _ _ from table has-none)
 
 -- a refused event leaves the record and both tables as they were
 pub refused-stays : (r : Record) (e : Event) (entries contexts : List ℕ) (x : Refusal)
-    → (step_of r e (length entries) (length contexts)).outcome ≡ Refused x
+    → (step_of r e (length entries) (length contexts)).outcome ≡ Err x
     → ((step_of r e (length entries) (length contexts)).rec ≡ r) × (entries_of r e entries contexts ≡ entries) × (contexts_of r e entries contexts ≡ contexts)
 unfolding step_of entries_of contexts_of refused_of
 refused-stays r e entries contexts x h =
@@ -72,7 +71,7 @@ refused-stays r e entries contexts x h =
     )
 
 -- on a well-formed record refusal 9 never comes
-pub never-nine : (r : Record) (e : Event) (entries contexts : ℕ) → well_formed r ≡ true → (step_of r e entries contexts).outcome ≡ Refused NotWellFormed → ⊥
+pub never-nine : (r : Record) (e : Event) (entries contexts : ℕ) → well_formed r ≡ true → (step_of r e entries contexts).outcome ≡ Err NotWellFormed → ⊥
 unfolding step_of
 never-nine r e entries contexts w h =
     let m = decide_of r e entries contexts in
@@ -80,7 +79,7 @@ never-nine r e entries contexts w h =
 
 -- so it never comes to a board that started fresh, whatever happens
 pub fresh-never-nine : (b : Board) → board_stands b ≡ true → (es : List Event) (e : Event)
-    → (stepped (after (fresh_of b) es) e).outcome ≡ Refused NotWellFormed → ⊥
+    → (stepped (after (fresh_of b) es) e).outcome ≡ Err NotWellFormed → ⊥
 fresh-never-nine b s es e = never-nine (after (fresh_of b) es) e most_cpus most_cpus (after_kept es (fresh_of b) (fresh-stands b s) (fresh-sized b)).0
 
 -- how long the tables are matters only up to the CPU count

@@ -11,12 +11,15 @@ use lib.ListN.{length, get_or, set, length-set}
 use Rattle.basics.specs.Choice.{pick}
 use Rattle.basics.proofs.Choice.{yes, no, pick-cases}
 use Rattle.basics.specs.Order.{lt-cases, last-cases}
-use Rattle.cpuset.specs.Set.{has_of}
-use Rattle.cpuset.specs.Laws.{has-out}
+use Rattle.cpuset.specs.Set.{has_of, none_of, same_of}
+use Rattle.cpuset.specs.Laws.{has-out, none_has}
 use Rattle.cpuset.specs.declared.CpuSet.{CpuSet}
 use Rattle.board.specs.Description.{most_cpus}
 use Rattle.board_record.proofs.Laws.{room_most}
 use Rattle.agent.specs.Step.{written, filled}
+
+-- a place past a table's end is not written
+pub ruleset outside = (set_out)
 
 -- ---- the loop: no place, a place more, the end
 pub written_none : (f : ℕ → Bool) (from table : List ℕ) → table ≡ written 0 f from table
@@ -57,6 +60,13 @@ pub written-nobody : (n : ℕ) (f : ℕ → Bool) (from table : List ℕ) → ((
 unfolding written
 written-nobody zero f from table h = refl
 written-nobody (suc n) f from table h = rw (h n) (written-nobody n f from table h)
+
+-- what a turn of the loop needs
+pub ruleset turns = (written_none, written-yes, written-no, length-set)
+
+-- where nobody resumes a table stays
+pub stays : (cpus : CpuSet) (from table : List ℕ) → same_of cpus none_of ≡ true → filled cpus from table ≡ table
+stays cpus from table e = written-nobody most_cpus (has_of cpus) from table (none_has cpus e)
 
 -- ---- what a client reads: the places from n on stay, and those below n are written or stay as f says
 written-far : (n : ℕ) (f : ℕ → Bool) (from table : List ℕ) (k : ℕ) → n ≤ k → get_or (written n f from table) k 0 ≡ get_or table k 0

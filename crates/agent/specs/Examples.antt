@@ -1,6 +1,6 @@
 -- Document 01's bench examples of the agent (marked P), the postponed one, rules that no bench example has, and every refusal of
 -- an event: one claim over one list. Assumes nothing.
-use Rattle.std.specs.Prelude.{ℕ, ◌+◌, ◌-◌, ◌^◌, ◌≡◌, refl, Bool, true, false, not, ◌&&◌, List, [], ◌∷◌, ◌++◌, eqb, replicate}
+use Rattle.std.specs.Prelude.{ℕ, ◌+◌, ◌-◌, ◌^◌, ◌≡◌, refl, Bool, true, false, not, ◌&&◌, List, [], ◌∷◌, ◌++◌, eqb, replicate, Err, Ok, Result}
 use Rattle.basics.specs.Every.{all_below, all_hold}
 use Rattle.basics.specs.Places.{firsts}
 use Rattle.codes.specs.Numbers.{version_number, features_number, info_number, inventory_number, prime_number, activate_number, cancel_number, off_number, on_number}
@@ -26,8 +26,8 @@ use Rattle.agent.specs.Numbers.{Said, said_of, refused_with, accepted_with}
 use Rattle.agent.specs.Step.{step_of, stepped, after}
 use Rattle.agent.specs.declared.Caller.{Caller}
 use Rattle.agent.specs.declared.Caller.TheVariants as caller
-use Rattle.agent.specs.declared.Outcome.{Outcome}
-use Rattle.agent.specs.declared.Outcome.TheVariants.{Refused, Accepted}
+use Rattle.agent.specs.declared.Answer.{Answer}
+use Rattle.rules.specs.declared.Refusal.{Refusal}
 
 -- a board of 4 CPUs: component 0 may reset, component 1 is optional, component 2 is not capable
 abbrev part : ℕ → Bool → Bool → Bool → Component
@@ -80,9 +80,9 @@ told caller.PrimeStarted = 3 ∷ []
 told caller.ActivationStarted = 4 ∷ []
 told caller.Gone = 5 ∷ []
 
-abbrev answered : Outcome → List ℕ
-answered (Refused x) = 0 ∷ number_of x ∷ []
-answered (Accepted a) = told a.caller
+abbrev answered : Result Answer Refusal → List ℕ
+answered (Err x) = 0 ∷ number_of x ∷ []
+answered (Ok a) = told a.caller
 
 abbrev same : List ℕ → List ℕ → Bool
 same [] [] = true
@@ -112,9 +112,9 @@ given caller.Gone = []
 abbrev gives : List Event → Event → List ℕ
 gives es e = by (stepped (after (fresh_of board) es) e).outcome
   where
-    by : Outcome → List ℕ
-    by (Refused x) = []
-    by (Accepted a) = given a.caller
+    by : Result Answer Refusal → List ℕ
+    by (Err x) = []
+    by (Ok a) = given a.caller
 
 abbrev inventory : ℕ → Event
 inventory c = call 0 inventory_number c 0 0 0

@@ -1,5 +1,5 @@
 -- An answer in document 01's numbers ("Events and what they answer"; the outcomes: "Packed forms"). Assumes nothing.
-use Rattle.std.specs.Prelude.{ℕ, ◌≡◌, true, eqb}
+use Rattle.std.specs.Prelude.{ℕ, ◌≡◌, true, eqb, Err, Ok, Result}
 use Rattle.basics.specs.Choice.{pick}
 use Rattle.basics.specs.Every.{one_of}
 use Rattle.basics.specs.First.{first_of}
@@ -17,10 +17,9 @@ use Rattle.agent.specs.declared.Answer.{Answer}
 use Rattle.agent.specs.declared.Caller.{Caller}
 use Rattle.agent.specs.declared.Caller.TheVariants as caller
 use Rattle.agent.specs.declared.Freed.{Freed}
-use Rattle.agent.specs.declared.Outcome.{Outcome}
-use Rattle.agent.specs.declared.Outcome.TheVariants.{Refused, Accepted}
 use Rattle.agent.specs.declared.Release.{Release}
 use Rattle.agent.specs.declared.Release.TheVariants as release
+use Rattle.rules.specs.declared.Refusal.{Refusal}
 
 -- ---- the "Caller's part" (Events 4): as the log numbers outcomes, and 0 where there is none
 abbrev pub outcome_of : Caller → ℕ
@@ -88,9 +87,9 @@ accepted_with a = record {
   freed = freed_by a.release;
 }
 
-abbrev pub said_of : Outcome → Said
-said_of (Refused x) = refused_with (number_of x)
-said_of (Accepted a) = accepted_with a
+abbrev pub said_of : Result Answer Refusal → Said
+said_of (Err x) = refused_with (number_of x)
+said_of (Ok a) = accepted_with a
 
 -- ---- what is promised of it
 

@@ -1,6 +1,6 @@
 -- What each move does and answers (document 01, "Calls" and "Reports"; the two parts of an answer, images and refusals: "Events
 -- and what they answer"). (H) marks a house choice. Assumes nothing.
-use Rattle.std.specs.Prelude.{ℕ, Bool, true, false, ◌||◌, eqb, set, replicate}
+use Rattle.std.specs.Prelude.{ℕ, Bool, true, false, ◌||◌, eqb, set, replicate, Err, Ok}
 use Rattle.basics.specs.Choice.{pick}
 use Rattle.codes.specs.Codes.{by_reset}
 use Rattle.cpuset.specs.Set.{none_of, only_of, with_of, without_of}
@@ -22,16 +22,15 @@ use Rattle.agent.specs.declared.Caller.{Caller}
 use Rattle.agent.specs.declared.Caller.TheVariants as caller
 use Rattle.agent.specs.declared.Release.{Release}
 use Rattle.agent.specs.declared.Release.TheVariants as release
-use Rattle.agent.specs.declared.Outcome.TheVariants.{Refused, Accepted}
 use Rattle.agent.specs.declared.Stepped.{Stepped}
 
 -- a refusal "comes with nothing else" (Events 21)
 unfoldable pub refused_of : Record → Refusal → Stepped
-refused_of r x = record { rec = r; outcome = Refused x }
+refused_of r x = record { rec = r; outcome = Err x }
 
 -- the two parts of an answer (Events 3)
 unfoldable pub accepted_of : Record → Caller → Release → Stepped
-accepted_of r who free = record { rec = r; outcome = Accepted (record { caller = who; release = free }) }
+accepted_of r who free = record { rec = r; outcome = Ok (record { caller = who; release = free }) }
 
 abbrev pub success_of : ℕ → Caller
 success_of x1 = caller.Returned (record { x0 = 0; x1 = x1; x2 = 0; x3 = 0 })

@@ -1,6 +1,6 @@
 -- One event: the answer, the next record, and the two resume tables (document 01, "Events and what they answer").
 -- Assumes nothing.
-use Rattle.std.specs.Prelude.{ℕ, zero, suc, Bool, List, [], ◌∷◌, length, get_or, set, replicate}
+use Rattle.std.specs.Prelude.{ℕ, zero, suc, Bool, List, [], ◌∷◌, length, get_or, set, replicate, Err, None, Ok, Option, Result, Some}
 use Rattle.basics.specs.Choice.{pick}
 use Rattle.cpuset.specs.Set.{has_of, none_of}
 use Rattle.cpuset.specs.declared.CpuSet.{CpuSet}
@@ -11,13 +11,12 @@ use Rattle.rules.specs.declared.Event.{Event}
 use Rattle.rules.specs.declared.Move.{Move}
 use Rattle.rules.specs.declared.Move.TheVariants as move
 use Rattle.agent.specs.Perform.{perform_of}
-use Rattle.agent.specs.declared.Outcome.{Outcome}
-use Rattle.agent.specs.declared.Outcome.TheVariants.{Refused, Accepted}
 use Rattle.agent.specs.declared.Release.{Release}
 use Rattle.agent.specs.declared.Release.TheVariants as release
 use Rattle.agent.specs.declared.Stepped.{Stepped}
-use Rattle.agent.specs.declared.tables.Source.{Source}
-use Rattle.agent.specs.declared.tables.Source.TheVariants.{Own, Given}
+use Rattle.agent.specs.declared.Answer.{Answer}
+use Rattle.rules.specs.declared.Refusal.{Refusal}
+use Rattle.rules.specs.declared.Waking.{Waking}
 
 -- the rules decide, then their effects happen; the two numbers are how many places the resume tables have
 unfoldable pub step_of : Record → Event → ℕ → ℕ → Stepped
@@ -31,35 +30,35 @@ resumed_by (release.Returned f) = none_of
 resumed_by (release.Resumed cpus) = cpus
 
 -- who resumes by entry
-abbrev pub resuming_of : Outcome → CpuSet
-resuming_of (Refused x) = none_of
-resuming_of (Accepted a) = resumed_by a.release
+abbrev pub resuming_of : Result Answer Refusal → CpuSet
+resuming_of (Err x) = none_of
+resuming_of (Ok a) = resumed_by a.release
 
 -- where: CPU_ON's target as its caller says, a held CPU as it said itself
-abbrev pub source_of : Move → Source
-source_of (move.Refuse x) = Own
-source_of (move.Return x) = Own
-source_of move.NoteInfo = Own
-source_of (move.StartPrime a) = Own
-source_of (move.Gather a) = Own
-source_of (move.StartTogether a) = Own
-source_of (move.StartAlone a) = Own
-source_of move.ToIdle = Own
-source_of (move.Withdraw id) = Own
-source_of (move.PowerOff cpu) = Own
-source_of (move.PowerOn w) = Given w
-source_of (move.EndPrime p) = Own
-source_of move.EndWithdrawn = Own
-source_of (move.EndActivate p) = Own
-source_of (move.NoteImage i) = Own
+abbrev pub source_of : Move → Option Waking
+source_of (move.Refuse x) = None
+source_of (move.Return x) = None
+source_of move.NoteInfo = None
+source_of (move.StartPrime a) = None
+source_of (move.Gather a) = None
+source_of (move.StartTogether a) = None
+source_of (move.StartAlone a) = None
+source_of move.ToIdle = None
+source_of (move.Withdraw id) = None
+source_of (move.PowerOff cpu) = None
+source_of (move.PowerOn w) = Some w
+source_of (move.EndPrime p) = None
+source_of move.EndWithdrawn = None
+source_of (move.EndActivate p) = None
+source_of (move.NoteImage i) = None
 
-abbrev pub entries_from : Record → Source → List ℕ
-entries_from r Own = r.entry
-entries_from r (Given w) = replicate most_cpus w.entry
+abbrev pub entries_from : Record → Option Waking → List ℕ
+entries_from r None = r.entry
+entries_from r (Some w) = replicate most_cpus w.entry
 
-abbrev pub contexts_from : Record → Source → List ℕ
-contexts_from r Own = r.context
-contexts_from r (Given w) = replicate most_cpus w.context
+abbrev pub contexts_from : Record → Option Waking → List ℕ
+contexts_from r None = r.context
+contexts_from r (Some w) = replicate most_cpus w.context
 
 -- a table with the places below n that f says written, and every other as it was
 unfoldable pub written : ℕ → (ℕ → Bool) → List ℕ → List ℕ → List ℕ

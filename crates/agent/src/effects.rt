@@ -2,7 +2,7 @@
 ghost use Rattle.std.specs.Prelude.{◌≡◌, set};
 ghost use Rattle.agent.specs.Perform.{refused_of, accepted_of, success_of, informed_of, note_info_of, imaged_of, note_image_of, joined_of, held_of, settled_of, freed_of, cancelled_of, to_idle_of, withdrawn_of, withdraw_of, powered_of, power_off_of, power_on_of, reported_of, after_prime, end_prime_of, end_withdrawn_of, after_activate, forgotten_of, is_done, ended_of, released_of, end_activate_of, perform_of};
 
-use crate::{Answer, Caller, Freed, Outcome, Release, Stepped};
+use crate::{Answer, Caller, Freed, Release, Stepped};
 use board_record::{Record, State};
 use cpuset::CpuSet;
 use rules::{Arrival, Image, Move, Refusal, Registers, Report, Waking};
@@ -10,24 +10,23 @@ use rules::{Arrival, Image, Move, Refusal, Registers, Report, Waking};
 // The status, without its sign, of those whose wait a CANCEL ended.
 const CANCELLED: u64 = 11;
 
+#[tactic(auto, unfolding(crate::specs::Perform::refused_of))]
 fn refused(rec: Record, x: Refusal) -> Stepped
     ensures { result ≡ refused_of rec x }
 {
     Stepped {
-        rec: rec,
-        outcome: Outcome::Refused(x),
+        rec,
+        outcome: Err(x),
     }
 }
 
+#[tactic(auto, unfolding(crate::specs::Perform::accepted_of))]
 fn accepted(rec: Record, caller: Caller, release: Release) -> Stepped
     ensures { result ≡ accepted_of rec caller release }
 {
     Stepped {
-        rec: rec,
-        outcome: Outcome::Accepted(Answer {
-            caller: caller,
-            release: release,
-        }),
+        rec,
+        outcome: Ok(Answer { caller, release }),
     }
 }
 
@@ -37,12 +36,13 @@ fn success(x1: u64) -> Caller
 {
     Caller::Returned(Registers {
         x0: 0,
-        x1: x1,
+        x1,
         x2: 0,
         x3: 0,
     })
 }
 
+#[tactic(auto, unfolding(crate::specs::Perform::informed_of))]
 fn informed(rec: Record, noted: bool) -> Record
     ensures { result ≡ informed_of rec noted }
 {
@@ -55,11 +55,15 @@ fn informed(rec: Record, noted: bool) -> Record
 fn note_info(rec: Record) -> Stepped
     ensures { result ≡ note_info_of rec }
 {
-    let count = rec.board.components;
-    accepted(informed(rec, true), success(count), Release::Nobody)
+    accepted(
+        informed(rec, true),
+        success(rec.board.components),
+        Release::Nobody,
+    )
 }
 
 // An image of component id is pending with this version, or none is.
+#[tactic(auto, unfolding(crate::specs::Perform::imaged_of), using(crate::proofs::Written::outside))]
 fn imaged(rec: Record, id: u64, pending: bool, version: u32) -> Record
     ensures { result ≡ imaged_of rec id pending version }
 {
@@ -82,28 +86,26 @@ fn note_image(rec: Record, i: Image) -> Stepped
 }
 
 // A table of CPUs with one place written.
-fn put(table: [u64; board::MOST_CPUS], i: u64, v: u64) -> [u64; board::MOST_CPUS]
+#[tactic(auto, using(crate::proofs::Written::outside))]
+fn put(mut table: [u64; board::MOST_CPUS], i: u64, v: u64) -> [u64; board::MOST_CPUS]
     ensures { result ≡ set table i v }
 {
-    let mut t = table;
     if i < board::MOST_CPUS as u64 {
-        t[i as usize] = v;
+        table[i as usize] = v;
     }
-    t
+    table
 }
 
 // The caller joins the held CPUs.
+#[tactic(auto, unfolding(crate::specs::Perform::joined_of))]
 fn joined(rec: Record, s: State, a: Arrival) -> Record
     ensures { result ≡ joined_of rec s a }
 {
-    let held = rec.held;
-    let entry = rec.entry;
-    let context = rec.context;
     Record {
         state: s,
-        held: cpuset::with(held, a.cpu),
-        entry: put(entry, a.cpu, a.entry),
-        context: put(context, a.cpu, a.context),
+        held: cpuset::with(rec.held, a.cpu),
+        entry: put(rec.entry, a.cpu, a.entry),
+        context: put(rec.context, a.cpu, a.context),
         ..rec
     }
 }
@@ -116,13 +118,13 @@ fn hold(rec: Record, s: State, a: Arrival, caller: Caller) -> Stepped
 }
 
 // The held CPUs are released, and nothing is kept of them.
+#[tactic(auto, unfolding(crate::specs::Perform::settled_of))]
 fn settled(rec: Record, s: State) -> Record
     ensures { result ≡ settled_of rec s }
 {
-    let nobody = cpuset::none();
     Record {
         state: s,
-        held: nobody,
+        held: cpuset::none(),
         entry: [0; board::MOST_CPUS],
         context: [0; board::MOST_CPUS],
         ..rec
@@ -133,21 +135,15 @@ fn settled(rec: Record, s: State) -> Record
 fn freed(cpus: CpuSet, x0: u64, x1: u64) -> Release
     ensures { result ≡ freed_of cpus x0 x1 }
 {
-    Release::Returned(Freed {
-        cpus: cpus,
-        x0: x0,
-        x1: x1,
-    })
+    Release::Returned(Freed { cpus, x0, x1 })
 }
 
 // Those that a CANCEL releases: the CPUs held for ACTIVATE, and no others.
 fn cancelled(rec: Record) -> Release
     ensures { result ≡ cancelled_of rec }
 {
-    let s = rec.state;
-    let held = rec.held;
-    if board_record::is_gathering(s) {
-        freed(held, rules::minus(CANCELLED), 0)
+    if board_record::is_gathering(rec.state) {
+        freed(rec.held, rules::minus(CANCELLED), 0)
     } else {
         Release::Nobody
     }
@@ -160,6 +156,7 @@ fn to_idle(rec: Record) -> Stepped
 }
 
 // The preparation is withdrawn; who called for it stays held.
+#[tactic(auto, unfolding(crate::specs::Perform::withdrawn_of))]
 fn withdrawn(rec: Record, id: u64) -> Record
     ensures { result ≡ withdrawn_of rec id }
 {
@@ -175,6 +172,7 @@ fn withdraw(rec: Record, id: u64) -> Stepped
     accepted(withdrawn(rec, id), success(0), Release::Nobody)
 }
 
+#[tactic(auto, unfolding(crate::specs::Perform::powered_of))]
 fn powered(rec: Record, cpus: CpuSet) -> Record
     ensures { result ≡ powered_of rec cpus }
 {
@@ -184,9 +182,8 @@ fn powered(rec: Record, cpus: CpuSet) -> Record
 fn power_off(rec: Record, cpu: u64) -> Stepped
     ensures { result ≡ power_off_of rec cpu }
 {
-    let on = rec.on;
     accepted(
-        powered(rec, cpuset::without(on, cpu)),
+        powered(rec, cpuset::without(rec.on, cpu)),
         Caller::Gone,
         Release::Nobody,
     )
@@ -195,15 +192,15 @@ fn power_off(rec: Record, cpu: u64) -> Stepped
 fn power_on(rec: Record, w: Waking) -> Stepped
     ensures { result ≡ power_on_of rec w }
 {
-    let on = rec.on;
     accepted(
-        powered(rec, cpuset::with(on, w.target)),
+        powered(rec, cpuset::with(rec.on, w.target)),
         success(0),
         Release::Resumed(cpuset::only(w.target)),
     )
 }
 
 // The status that a code says, and whether to call again.
+#[tactic(auto, unfolding(crate::specs::Perform::reported_of))]
 fn reported(held: CpuSet, code: u64) -> Release
     ensures { result ≡ reported_of held code }
 {
@@ -214,26 +211,24 @@ fn reported(held: CpuSet, code: u64) -> Release
     }
 }
 
+#[tactic(auto, unfolding(crate::specs::Perform::after_prime))]
 fn after_prime(p: Report) -> State
     ensures { result ≡ after_prime p }
 {
-    if p.code == 0 {
-        return State::Ready(p.component);
+    match p.code {
+        0 => State::Ready(p.component),
+        1 => State::HalfPrepared(p.component),
+        _ => State::Idle,
     }
-    if p.code == 1 {
-        return State::HalfPrepared(p.component);
-    }
-    State::Idle
 }
 
 fn end_prime(rec: Record, p: Report) -> Stepped
     ensures { result ≡ end_prime_of rec p }
 {
-    let held = rec.held;
     accepted(
         settled(rec, after_prime(p)),
         Caller::Nothing,
-        reported(held, p.code),
+        reported(rec.held, p.code),
     )
 }
 
@@ -241,27 +236,23 @@ fn end_prime(rec: Record, p: Report) -> Stepped
 fn end_withdrawn(rec: Record) -> Stepped
     ensures { result ≡ end_withdrawn_of rec }
 {
-    let held = rec.held;
     accepted(
         settled(rec, State::Idle),
         Caller::Nothing,
-        freed(held, rules::minus(CANCELLED), 0),
+        freed(rec.held, rules::minus(CANCELLED), 0),
     )
 }
 
+#[tactic(auto, unfolding(crate::specs::Perform::after_activate))]
 fn after_activate(p: Report) -> State
     ensures { result ≡ after_activate p }
 {
-    if p.code == 1 {
-        return State::HalfActivated(p.component);
+    match p.code {
+        1 => State::HalfActivated(p.component),
+        2 => State::Ready(p.component),
+        5 => State::Dead,
+        _ => State::Idle,
     }
-    if p.code == 2 {
-        return State::Ready(p.component);
-    }
-    if p.code == 5 {
-        return State::Dead;
-    }
-    State::Idle
 }
 
 // The image of component id is pending no more, and GET_INFO is forgotten.
@@ -271,16 +262,14 @@ fn forgotten(rec: Record, id: u64) -> Record
     informed(imaged(rec, id, false, 0), false)
 }
 
+#[tactic(auto, unfolding(crate::specs::Perform::is_done))]
 fn is_done(code: u64) -> bool
     ensures { result ≡ is_done code }
 {
-    if code == 0 {
-        true
-    } else {
-        code == codes::BY_RESET
-    }
+    code == 0 || code == codes::BY_RESET
 }
 
+#[tactic(auto, unfolding(crate::specs::Perform::ended_of))]
 fn ended(rec: Record, p: Report) -> Record
     ensures { result ≡ ended_of rec p }
 {
@@ -306,8 +295,7 @@ fn released(held: CpuSet, code: u64) -> Release
 fn end_activate(rec: Record, p: Report) -> Stepped
     ensures { result ≡ end_activate_of rec p }
 {
-    let held = rec.held;
-    accepted(ended(rec, p), Caller::Nothing, released(held, p.code))
+    accepted(ended(rec, p), Caller::Nothing, released(rec.held, p.code))
 }
 
 // The next record and the answer of a move.

@@ -1,69 +1,130 @@
--- Fields by bytes: a number's bytes turned round twice are the number, by what each place holds; a field is cut out of the number of
--- the bytes that cover it. Assumes nothing.
+-- Fields by bytes: what bytes write, by the kit's words for the bytes of a number; a field is cut out of the number of the bytes that
+-- cover it. Assumes nothing.
 use Prim.Native.Nat.{ℕ, zero, suc, ◌+◌, ◌-◌, ◌*◌, ◌/◌, ◌%◌, ◌^◌, ◌≤◌, ◌<◌}
-use mathlib.Core.Path.{◌≡◌, refl, sym, ap, ◌∙◌}
-use mathlib.Core.List.{List}
-use native.Mathlib.Nat.{zero-add}
+use mathlib.Core.Path.{◌≡◌, refl, sym, ap, subst, ◌∙◌}
+use mathlib.Core.List.{List, [], ◌∷◌, ◌++◌, reverse}
+use native.Mathlib.Nat.{zero-add, suc-add, add-mul, mul_assoc, add_assoc, mod-eq_of_lt}
 use native.Mathlib.Omega.{arith}
-use native.Mathlib.Numerals.{add-one}
-use lib.ListN.{length, get_or}
-use lib.Pow.{high, low, shl_exact, pow-add, pow_mono}
+use lib.ListN.{length, take, drop, take-append-drop, get_or-eq_default, length-drop}
+use lib.Seq.{length-take-le, take_all}
+use lib.Pow.{high, low, shl_exact, pow-add, pow_pos}
 use lib.Arith.{digits_lt}
-use Rattle.basics.specs.Places.{firsts, length-firsts, get_or-firsts}
+use Rattle.std.specs.Prelude.{bit_or}
+use Rattle.std.specs.List.{fold}
+use Rattle.std.specs.Int.{w64, to_be_bytes, to_le_bytes, from_be_bytes, swap_bytes}
+use Rattle.std.proofs.lemmas.List.{length-reverse, reverse-append, reverse-reverse, get_or-reverse}
+use Rattle.std.proofs.lemmas.Nat.{or_shifted, be_bytes_8}
+use Rattle.basics.specs.Order.{lt-cases}
 use Rattle.bitfield.specs.Bits.{AreBytes, widest, widest_bytes, value_at, bytes}
-use Rattle.bitfield.proofs.Laws.{value-lt, value-join, value-byte, get_or-bytes, firsts-bytes}
-use Rattle.bitfield.proofs.Round.{bytes-value}
+use Rattle.bitfield.proofs.Laws.{value-lt, value-join, length-bytes, get_or-bytes}
+use Rattle.bitfield.proofs.Round.{value-cons, value-bytes, value-front, value-drop, bytes-value, bytes-append}
 
-pub value_none : (s : List ℕ) (p : ℕ) → value_at s p 0 ≡ 0
+-- no bytes write 0
+pub value_none : (s : List ℕ) → length s ≡ 0 → 0 ≡ value_at s 0 (8 * length s)
 unfolding value_at
-value_none s p = refl
+value_none s h = rw h
 
--- one byte more
-byte_more : (s : List ℕ) (k i : ℕ) → get_or s (k + i) 0 < 256 → value_at s (8 * k) (8 * (i + 1)) ≡ value_at s (8 * k) (8 * i) * 256 + get_or s (k + i) 0
-byte_more s k i h =
-    let w : 8 * (i + 1) ≡ 8 * i + 8 = omega arith in
-    let at : 8 * k + 8 * i ≡ 8 * (k + i) = omega arith in
-    rw (w, value-join s (8 * k) (8 * i) 8, at, value-byte s (k + i) h)
+-- a field of the m bytes from byte k on
+pub value-part : (s : List ℕ) (k m p w : ℕ) → k + m ≤ length s → p + w ≤ 8 * m → value_at (take m (drop k s)) p w ≡ value_at s (8 * k + p) w
+value-part s k m p w h g =
+    let l = drop k s in
+    let n : length (take m l) ≡ m = length-take-le m l (omega (arith, length-drop k s)) in
+    sym (value-front (take m l) (drop m l) p w (omega arith)) ∙ ap (λ (t : List ℕ). value_at t p w) (take-append-drop m l) ∙ value-drop s k p w
 
--- one byte more of a list that is given by its places
-pub next-byte : (n : ℕ) (f : ℕ → ℕ) (i v : ℕ) → i < n → f i < 256 → v ≡ value_at (firsts n f) 0 (8 * i) → v * 256 + f i ≡ value_at (firsts n f) 0 (8 * (i + 1))
-next-byte n f i v h b e =
-    let g : get_or (firsts n f) (0 + i) 0 ≡ f i = rw zero-add (get_or-firsts f n i 0 h) in
-    rw e (rw g at (sym (byte_more (firsts n f) 0 i (rw g b))))
+-- the number of the first m bytes
+pub value-take : (s : List ℕ) (m : ℕ) → m ≤ length s → value_at (take m s) 0 (8 * length (take m s)) ≡ value_at s 0 (8 * m)
+value-take s m h =
+    let n : length (take m s) ≡ m = length-take-le m s h in
+    let e : value_at (take m s ++ drop m s) 0 (8 * m) ≡ value_at (take m s) 0 (8 * m) = value-front (take m s) (drop m s) 0 (8 * m) (omega arith) in
+    rw n (rw (take-append-drop m s) at (sym e))
 
--- up to eight bytes, whatever the last one is, fit a word
-pub next_fits : (s : List ℕ) (i v : ℕ) → i < widest_bytes → v ≡ value_at s 0 (8 * i) → v * 256 + 255 < 2 ^ widest
-next_fits s i v h e =
-    let top : v * 256 + 255 < 2 ^ (8 * i) * 256 = digits_lt (rw e (value-lt s 0 (8 * i))) (omega arith) in
-    omega (arith, top, pow-add 2 (8 * i) 8, pow_mono {i = 8 * i + 8} {j = widest} (omega arith))
+-- ---- the number of bytes
 
--- the bytes of the number that bytes write in the other order, turned again
-turned-byte : (s : List ℕ) (k n x i : ℕ) → AreBytes s → i < n → x ≡ value_at (firsts n (λ j. get_or s (k + (n - 1 - j)) 0)) 0 (8 * n) → x / 2 ^ (8 * i) % 256 ≡ get_or s (k + i) 0
-turned-byte s k n x i b h e =
-    let f : ℕ → ℕ = λ j. get_or s (k + (n - 1 - j)) 0 in
-    let m : length (firsts n f) ≡ n = length-firsts f n in
-    let w : bytes n x ≡ firsts n f = rw e (rw m at (bytes-value (firsts n f) (firsts-bytes n f (λ j. b (k + (n - 1 - j)))))) in
-    let j : n - 1 - (n - 1 - i) ≡ i = omega arith in
-    let p : get_or (bytes n x) (n - 1 - i) 0 ≡ x / 2 ^ (8 * i) % 256 = get_or-bytes n x (n - 1 - i) (omega arith) ∙ rw j in
-    let q : get_or (firsts n f) (n - 1 - i) 0 ≡ get_or s (k + i) 0 = get_or-firsts f n (n - 1 - i) 0 (omega arith) ∙ rw j in
-    sym p ∙ ap (λ (l : List ℕ). get_or l (n - 1 - i) 0) w ∙ q
+-- bytes that are shifted in one by one, after a number that leaves room for them
+pub fold-bytes : (l : List ℕ) (v : ℕ) → AreBytes l → length l ≤ widest_bytes → v < 2 ^ (8 * (widest_bytes - length l)) → fold (λ v b. bit_or (v * 2 ^ 8 % 2 ^ 64) b) v l ≡ v * 2 ^ (8 * length l) + value_at l 0 (8 * length l)
+unfolding value_at
+fold-bytes [] v b h lt = omega arith
+fold-bytes (x ∷ l) v b h lt =
+    let n = length l in
+    let room : 8 * (widest_bytes - n) ≡ 8 * (widest_bytes - suc n) + 8 = omega arith in
+    let within : 8 * (widest_bytes - suc n) + 8 ≤ widest = omega arith in
+    let step : bit_or (v * 2 ^ 8 % 2 ^ 64) x ≡ v * 256 + x = rw (shl_exact _ 8 64 lt within) (or_shifted v 8 x (b 0)) in
+    let fits : v * 256 + x < 2 ^ (8 * (widest_bytes - n)) = rw (room, pow-add 2 (8 * (widest_bytes - suc n)) 8) (digits_lt lt (b 0)) in
+    let e : 8 * suc n ≡ 8 + 8 * n = omega arith in
+    let w = value_at l 0 (8 * n) in
+    let more : fold (λ v b. bit_or (v * 2 ^ 8 % 2 ^ 64) b) (v * 256 + x) l ≡ (v * 256 + x) * 2 ^ (8 * n) + w = fold-bytes l (v * 256 + x) (λ i. b (suc i)) (omega arith) fits in
+    rw (step, more, value-cons x l n (b 0), e, pow-add 2 8 (8 * n), add-mul, mul_assoc, add_assoc)
 
--- the same bytes write the same number
-value_same : (l s : List ℕ) (k n : ℕ) → AreBytes s → ((i : ℕ) → i < n → get_or l i 0 ≡ get_or s (k + i) 0) → value_at l 0 (8 * n) ≡ value_at s (8 * k) (8 * n)
-value_same l s k zero b h = value_none l 0 ∙ sym (value_none s (8 * k))
-value_same l s k (suc n) b h =
-    let g : get_or l (0 + n) 0 ≡ get_or s (k + n) 0 = rw zero-add (h n (omega arith)) in
-    rw (← add-one n, byte_more l 0 n (rw g (b (k + n))), byte_more s k n (b (k + n)), g, value_same l s k n b (λ i m. h i (omega arith)))
+pub to-be-bytes : (x : ℕ) → to_be_bytes w64 x ≡ bytes widest_bytes x
+unfolding bytes
+to-be-bytes x =
+    let e : x / 2 ^ (8 * 0) % 256 ≡ x % 256 = omega arith in
+    rw e
 
--- n bytes turned twice are the upper ones of a word
-pub turned-back : (s : List ℕ) (k n y x : ℕ) → AreBytes s → n ≤ widest_bytes → y ≡ value_at (firsts n (λ i. get_or s (k + (n - 1 - i)) 0)) 0 (8 * n) → x ≡ value_at (firsts widest_bytes (λ i. y / 2 ^ (8 * i) % 256)) 0 widest → x / 2 ^ (8 * (widest_bytes - n)) ≡ value_at s (8 * k) (8 * n)
-turned-back s k n y x b h e q =
-    let f : ℕ → ℕ = λ i. y / 2 ^ (8 * i) % 256 in
-    let l = firsts widest_bytes f in
+bytes-drop : (m n x : ℕ) → drop m (bytes (m + n) x) ≡ bytes n x
+unfolding bytes
+bytes-drop zero n x = rw zero-add
+bytes-drop (suc m) n x = rw suc-add (bytes-drop m n x)
+
+-- the last of a word's bytes are those of as many
+pub last-bytes : (l : List ℕ) (n x : ℕ) → n ≤ widest_bytes → l ≡ to_be_bytes w64 x → take (widest_bytes - (widest_bytes - n)) (drop (widest_bytes - n) l) ≡ bytes n x
+last-bytes l n x h e =
+    let m : widest_bytes - n + n ≡ widest_bytes = omega arith in
+    let k : widest_bytes - (widest_bytes - n) ≡ n = omega arith in
+    let d : drop (widest_bytes - n) (bytes widest_bytes x) ≡ bytes n x = rw m at (bytes-drop (widest_bytes - n) n x) in
+    rw (e, to-be-bytes x, d, k) (take_all n (bytes n x) (omega (arith, length-bytes n x)))
+
+-- the number of a word's bytes
+be-value : (l : List ℕ) (x : ℕ) → length l ≡ widest_bytes → AreBytes l → x < 2 ^ widest → x ≡ from_be_bytes w64 l → x ≡ value_at l 0 widest
+be-value l x h b lt e =
+    let w : bytes widest_bytes x ≡ l = sym (to-be-bytes x) ∙ be_bytes_8 l x h b e in
+    sym (ap (λ (t : List ℕ). value_at t 0 widest) (sym w) ∙ value-bytes widest_bytes x ∙ mod-eq_of_lt lt)
+
+turned-are-bytes : (s : List ℕ) → AreBytes s → AreBytes (reverse s)
+turned-are-bytes s b i =
+    lt-cases i (length s) (λ l. rw (get_or-reverse s i 0 l) (b _))
+    (λ l. rw (get_or-eq_default (reverse s) 0 {n = i} (omega (arith, length-reverse s))) (omega arith))
+
+bytes-are-bytes : (n x : ℕ) → AreBytes (bytes n x)
+bytes-are-bytes n x i =
+    lt-cases i n (λ l. rw (get_or-bytes n x i l) (omega arith))
+    (λ l. rw (get_or-eq_default (bytes n x) 0 {n = i} (omega (arith, length-bytes n x))) (omega arith))
+
+-- a word's bytes, lowest first
+low_first : (y : ℕ) → to_le_bytes w64 y ≡ reverse (bytes widest_bytes y)
+low_first y =
+    let e : to_le_bytes w64 y ≡ reverse (to_be_bytes w64 y) = refl in
+    e ∙ ap reverse (to-be-bytes y)
+
+-- of the number that bytes write in the other order they are those bytes, and more
+turned : (s : List ℕ) (y : ℕ) → AreBytes s → length s ≤ widest_bytes → y ≡ value_at (reverse s) 0 (8 * length s) → to_le_bytes w64 y ≡ s ++ reverse (bytes (widest_bytes - length s) 0)
+turned s y b h e =
+    let n = length s in
+    let r = reverse s in
+    let more = bytes (widest_bytes - n) 0 in
+    let m : widest_bytes - n + n ≡ widest_bytes = omega arith in
+    let lt : y < 2 ^ (8 * n) = rw e (value-lt r 0 (8 * n)) in
+    let own : bytes n y ≡ r = rw e (rw (length-reverse s) at (bytes-value r (turned-are-bytes s b))) in
+    let z : 0 * 2 ^ (8 * n) + y ≡ y = omega arith in
+    let all : bytes widest_bytes y ≡ more ++ r = rw (m, z) at (bytes-append (widest_bytes - n) n 0 y lt ∙ ap (λ (t : List ℕ). more ++ t) own) in
+    low_first y ∙ ap reverse all ∙ reverse-append more r ∙ ap (λ (t : List ℕ). t ++ reverse more) (reverse-reverse s)
+
+-- bytes that are read in the other order and swapped are the upper ones of a word
+pub turned-back : (s : List ℕ) (y x : ℕ) → AreBytes s → length s ≤ widest_bytes → y ≡ fold (λ v b. bit_or (v * 2 ^ 8 % 2 ^ 64) b) 0 (reverse s) → x ≡ swap_bytes w64 y → x < 2 ^ widest → x / 2 ^ (8 * (widest_bytes - length s)) ≡ value_at s 0 (8 * length s)
+turned-back s y x b h e q lt =
+    let n = length s in
     let rest = 8 * (widest_bytes - n) in
+    let l = to_le_bytes w64 y in
+    let more = reverse (bytes (widest_bytes - n) 0) in
+    let len = length-reverse s in
+    let other : y ≡ value_at (reverse s) 0 (8 * n) = e ∙ fold-bytes (reverse s) 0 (turned-are-bytes s b) (omega arith) (pow_pos _) ∙ rw len (omega arith) in
+    let fit : AreBytes l = subst AreBytes (sym (low_first y)) (turned-are-bytes (bytes widest_bytes y) (bytes-are-bytes widest_bytes y)) in
+    let v : x ≡ value_at l 0 widest = be-value l x refl fit lt q in
     let w : widest ≡ 8 * n + rest = omega arith in
-    let top : x / 2 ^ rest ≡ value_at l 0 (8 * n) = rw (q, w, value-join l 0 (8 * n) rest, high (value_at l 0 (8 * n)) rest (value-lt l (0 + 8 * n) rest)) in
-    top ∙ value_same l s k n b (λ i m. get_or-firsts f widest_bytes i 0 (omega arith) ∙ turned-byte s k n y i b m e)
+    let top : x / 2 ^ rest ≡ value_at l 0 (8 * n) = rw (v, w, value-join l 0 (8 * n) rest, high (value_at l 0 (8 * n)) rest (value-lt l (0 + 8 * n) rest)) in
+    top ∙ ap (λ (t : List ℕ). value_at t 0 (8 * n)) (turned s y b h other) ∙ value-front s more 0 (8 * n) (omega arith)
+
+-- ---- a field of a number
 
 -- the last w of b bits that write x
 pub value_low : (s : List ℕ) (p a w b x : ℕ) → b ≡ a + w → x ≡ value_at s p b → x % 2 ^ w ≡ value_at s (p + a) w

@@ -2,15 +2,18 @@
 use Prim.Native.Nat.{ℕ, zero, suc, ◌+◌, ◌-◌, ◌*◌, ◌/◌, ◌%◌, ◌^◌, ◌≤◌, ◌<◌}
 use mathlib.Core.Path.{◌≡◌, refl, sym, ap, ◌∙◌}
 use mathlib.Core.List.{List, [], ◌++◌, append_assoc, append-nil}
-use native.Mathlib.Nat.{pow-suc, pow-zero, add-suc, add-zero, mul_assoc, add_assoc, mul-suc, div-div-eq-div-mul}
+use native.Mathlib.Nat.{pow-suc, pow-zero, add-suc, add-zero, mul_assoc, add_assoc, mul-suc, div-div-eq-div-mul, mod-eq_of_lt}
 use native.Mathlib.Omega.{arith}
 use native.Mathlib.Numerals.{add-one}
-use lib.ListN.{length, get_or, take, drop, length-append, take-append-drop, get_or-append, get_or-eq_default}
+use lib.ListN.{length, get_or, take, drop, length-append, length-drop, take-append-drop, get_or-append, get_or-eq_default}
 use lib.Seq.{get_or-append-add, paste, length-take-le, drop-drop, drop-append-add, take-length, take_at}
-use lib.Pow.{pow_mono}
+use lib.Pow.{pow_mono, pow_pos}
+use Rattle.std.proofs.lemmas.Nat.{one_shl}
 use mathlib.Core.Bool.{Bool, true, false}
 use lib.Dec.{leb}
 use borrow.Author.Tests.{le-leb, lt-leb}
+use borrow.Rule.Slice.PartMut.{put_mid}
+use Rattle.std.proofs.lemmas.Slice.{put_mid-paste}
 use Rattle.basics.proofs.Choice.{pick-cases}
 use Rattle.basics.specs.Places.{firsts, length-firsts, get_or-firsts, in_turn, in_turn-more}
 use Rattle.basics.specs.Order.{lt-cases}
@@ -32,6 +35,13 @@ value-fits s at w h = omega (arith, value-lt s at w, pow_mono {i = w} {j = wides
 -- what a caller that has looked at the length reads
 pub value-inside : (s : List ℕ) (at w : ℕ) → w ≤ widest → at + w ≤ 8 * length s → value_in (field_at s at w) ≡ value_at s at w
 value-inside s at w h g = simp (le-leb _ _ h, le-leb _ _ g)
+
+-- the last bits of a word: what they are by, and all of them
+pub one_bit : (w : ℕ) → w < widest → (1 * 2 ^ w % 2 ^ widest ≡ 2 ^ w) × (0 < 2 ^ w)
+one_bit w h = (one_shl w widest h, pow_pos w)
+
+pub all_bits : (v w : ℕ) → v < 2 ^ widest → widest ≤ w → v ≡ v % 2 ^ w
+all_bits v w h g = sym (mod-eq_of_lt (omega (arith, pow_mono {i = widest} {j = w} g)))
 
 -- two fields side by side are one
 pub value-join : (s : List ℕ) (at a b : ℕ) → value_at s at (a + b) ≡ value_at s at a * 2 ^ b + value_at s (at + a) b
@@ -169,3 +179,12 @@ module _ (s : List ℕ) (k n x : ℕ) where
   pub written-inside : room_for s k n ≡ true → written s k n x ≡ put s k (bytes n x)
   unfolding written
   written-inside e = rw e
+
+-- a part that was written
+pub put_mid-put : (d : List ℕ) (k m n x : ℕ) (new : List ℕ) → new ≡ bytes (length (take m (drop k d))) x → m ≡ n → n ≤ widest_bytes → k + n ≤ length d → put_mid k m d new ≡ written d k n x
+put_mid-put d k m n x new e q h g =
+    let l : length (take m (drop k d)) ≡ n = omega (arith, length-take-le m (drop k d) (omega (arith, length-drop k d))) in
+    let w : new ≡ bytes n x = rw l at e in
+    put_mid-paste k m d new (bytes n x) (length (bytes n x)) w (length-bytes n x ∙ sym q) refl
+    ∙ put-paste d k (bytes n x)
+    ∙ sym (written-inside d k n x (room d k n h g))

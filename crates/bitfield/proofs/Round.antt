@@ -61,7 +61,7 @@ value-in_turn f m (suc n) l i p w h g =
 -- ---- one number
 
 -- the value of bytes is what they write
-value-cons : (b : ℕ) (s : List ℕ) (n : ℕ) → b < 256 → value_at (b ∷ s) 0 (8 * suc n) ≡ b * 2 ^ (8 * n) + value_at s 0 (8 * n)
+pub value-cons : (b : ℕ) (s : List ℕ) (n : ℕ) → b < 256 → value_at (b ∷ s) 0 (8 * suc n) ≡ b * 2 ^ (8 * n) + value_at s 0 (8 * n)
 value-cons b s n h =
     let e : 8 * suc n ≡ 8 + 8 * n = omega arith in
     let one : value_at (b ∷ s) 0 8 ≡ b = value-byte (b ∷ s) 0 h in

@@ -1,9 +1,7 @@
 -- What a field of a slice of bytes is, and what writing whole bytes does, most significant bit first
 -- (document 01, "Packed forms, most significant bit first"). Assumes nothing.
-use Rattle.std.specs.Prelude.{ℕ, zero, suc, ◌+◌, ◌-◌, ◌*◌, ◌/◌, ◌%◌, ◌^◌, ◌<◌, Bool, false, List, [], ◌∷◌, ◌++◌, length, get_or, take, drop, leb}
+use Rattle.std.specs.Prelude.{ℕ, zero, suc, ◌+◌, ◌-◌, ◌*◌, ◌/◌, ◌%◌, ◌^◌, ◌<◌, Bool, false, List, [], ◌∷◌, ◌++◌, length, get_or, take, drop, leb, None, Option, Some}
 use Rattle.basics.specs.Choice.{pick}
-use Rattle.bitfield.specs.declared.Field.{Field}
-use Rattle.bitfield.specs.declared.Field.TheVariants.{Value, Outside}
 
 -- the widest field, in bits and in bytes: a word
 abbrev pub widest : ℕ
@@ -26,13 +24,13 @@ value_at s at zero = 0
 value_at s at (suc w) = value_at s at w * 2 + bit_at s (at + w)
 
 -- that number, where the field is at most a word and all its bits lie in s
-abbrev pub field_at : List ℕ → ℕ → ℕ → Field
-field_at s at w = pick (leb w widest) (pick (leb (at + w) (8 * length s)) (Value (value_at s at w)) Outside) Outside
+abbrev pub field_at : List ℕ → ℕ → ℕ → Option ℕ
+field_at s at w = pick (leb w widest) (pick (leb (at + w) (8 * length s)) (Some (value_at s at w)) None) None
 
 -- a field's value, 0 where it is outside
-abbrev pub value_in : Field → ℕ
-value_in (Value v) = v
-value_in Outside = 0
+abbrev pub value_in : Option ℕ → ℕ
+value_in (Some v) = v
+value_in None = 0
 
 -- the n bytes that write x, the most significant first
 unfoldable pub bytes : ℕ → ℕ → List ℕ

@@ -1,67 +1,36 @@
 // Fields of a slice of bytes, most significant bit first: reading one of up to 64 bits anywhere, writing whole bytes.
 #![tactic(auto)]
 
-ghost use Rattle.std.specs.Prelude.{◌≡◌, ◌+◌, ◌-◌, ◌*◌, ◌/◌, ◌%◌, ◌^◌, ◌<◌, ◌≤◌, length, get_or};
-ghost use Rattle.basics.specs.Places.{firsts};
-ghost use Rattle.bitfield.specs.Bits.{widest, widest_bytes, value_at, field_at, value_in, room_for, written, put, bytes};
+ghost use Rattle.std.specs.Prelude.{◌≡◌, ◌+◌, ◌-◌, ◌*◌, ◌/◌, ◌%◌, ◌^◌, ◌<◌, ◌≤◌, length, reverse, bit_or};
+ghost use Rattle.std.specs.List.{fold};
+ghost use Rattle.bitfield.specs.Bits.{widest, widest_bytes, value_at, field_at, value_in, room_for, written, bytes};
 
 // The widest field, in bits and in bytes: a word.
 const WIDEST: usize = 64;
 
 const WIDEST_BYTES: usize = 8;
 
-// What a field is: its value, or that it has bits outside the slice or more of them than a word.
-#[derive(Clone, Copy)]
-pub enum Field {
-    Value(u64),
-    Outside,
+// The number that bytes write in the other order.
+fn backwards(s: &[u8]) -> u64
+    ensures { result ≡ fold (λ v b. bit_or (v * 2 ^ 8 % 2 ^ 64) b) 0 (reverse s.now) }
+{
+    s.iter().rev().fold(0u64, |v, b| v << 8 | u64::from(*b))
 }
 
-fn wide(x: u8) -> u64
-    ensures { result ≡ x }
+// The number that up to eight bytes write. Turned twice: where it is known how many there are and accesses need not be aligned, the
+// compiler makes one load and one byte swap of it. No bytes would be a shift by a whole word, which there is not.
+#[tactic(auto, using(crate::proofs::ByBytes::value_none))]
+fn number(s: &[u8]) -> u64
+    requires { length s.now ≤ widest_bytes }
+    ensures { result ≡ value_at s.now 0 (8 * length s.now) }
 {
-    x as u64
-}
-
-// The number that the n bytes from byte k on write in the other order.
-fn backwards(s: &[u8], k: usize, n: usize) -> u64
-    requires { (n ≤ widest_bytes) × (k + n ≤ length s.now) }
-    ensures { result ≡ value_at (firsts n (λ i. get_or s.now (k + (n - 1 - i)) 0)) 0 (8 * n) }
-{
-    let mut v: u64 = 0;
-    let mut i: usize = 0;
-    while i < n {
-        v = v * 256 + wide(s[k + (n - 1 - i)]);
-        i += 1;
-    }
-    v
-}
-
-// The number that the bytes of x write in the other order.
-fn turned(x: u64) -> u64
-    ensures { result ≡ value_at (firsts widest_bytes (λ i. x / 2 ^ (8 * i) % 256)) 0 widest }
-{
-    let mut v: u64 = 0;
-    let mut i: usize = 0;
-    while i < WIDEST_BYTES {
-        v = v * 256 + (x >> (8 * i)) % 256;
-        i += 1;
-    }
-    v
-}
-
-// The number that the n bytes from byte k on write. Turned twice: where n is known and accesses need not be aligned, the compiler
-// makes one load and one byte swap of it. No bytes would be a shift by a whole word, which there is not.
-fn number(s: &[u8], k: usize, n: usize) -> u64
-    requires { (n ≤ widest_bytes) × (k + n ≤ length s.now) }
-    ensures { result ≡ value_at s.now (8 * k) (8 * n) }
-{
-    if n == 0 {
+    if s.is_empty() {
         return 0;
     }
-    turned(backwards(s, k, n)) >> (8 * (WIDEST_BYTES - n))
+    backwards(s).swap_bytes() >> (8 * (WIDEST_BYTES - s.len()))
 }
 
+#[tactic(auto, using(crate::proofs::Laws::one_bit, crate::proofs::Laws::all_bits))]
 fn last_bits(v: u64, width: usize) -> u64
     ensures { result ≡ v % 2 ^ width }
 {
@@ -71,42 +40,43 @@ fn last_bits(v: u64, width: usize) -> u64
     v % (1 << width)
 }
 
-// The field of width bits from bit off of byte k on, where a word covers it: its bytes, one shift and one remainder. Rounded up to
-// whole bytes, its end says how many there are, and how many bits of the last stand past it.
-fn covered(s: &[u8], k: usize, off: usize, width: usize) -> u64
-    requires { (off + width ≤ widest) × (8 * k + off + width ≤ 8 * length s.now) }
-    ensures { result ≡ value_at s.now (8 * k + off) width }
+// The field of width bits from bit off on of the bytes that cover it, where these are a word's: the bits past it are those from its
+// end to theirs.
+fn covered(s: &[u8], off: usize, width: usize) -> u64
+    requires { (off + width ≤ widest) × (length s.now ≡ (off + width + 7) / 8) }
+    ensures { result ≡ value_at s.now off width }
 {
-    let end = off + width + 7;
-    last_bits(number(s, k, end / 8) >> (7 - end % 8), width)
+    last_bits(number(s) >> (8 * s.len() - (off + width)), width)
 }
 
 // The same where it takes nine bytes: what the first eight have of it, and the rest.
-fn joined(s: &[u8], k: usize, off: usize, width: usize) -> u64
-    requires { (off < 8) × (width ≤ widest) × (widest < off + width) × (8 * k + off + width ≤ 8 * length s.now) }
-    ensures { result ≡ value_at s.now (8 * k + off) width }
+fn joined(s: &[u8], off: usize, width: usize) -> u64
+    requires { (off < 8) × (width ≤ widest) × (widest < off + width) × (length s.now ≡ 9) }
+    ensures { result ≡ value_at s.now off width }
 {
     let rest = off + width - WIDEST;
-    let first = last_bits(number(s, k, WIDEST_BYTES), width - rest);
-    (first << rest) + (wide(s[k + WIDEST_BYTES]) >> (8 - rest))
+    let first = last_bits(number(&s[..WIDEST_BYTES]), width - rest);
+    (first << rest) + (u64::from(s[WIDEST_BYTES]) >> (8 - rest))
 }
 
 // The number that the width bits from bit at on write. Every reader goes through here.
-pub fn read(s: &[u8], at: usize, width: usize) -> Field
+pub fn read(s: &[u8], at: usize, width: usize) -> Option<u64>
     ensures { result ≡ field_at s.now at width }
 {
     if width > WIDEST {
-        return Field::Outside;
+        return None;
     }
     let k = at / 8;
     let off = at % 8;
-    if k + (off + width + 7) / 8 > s.len() {
-        return Field::Outside;
+    let end = k + (off + width + 7) / 8;
+    if end > s.len() {
+        return None;
     }
+    let covering = &s[k..end];
     if off + width > WIDEST {
-        return Field::Value(joined(s, k, off, width));
+        return Some(joined(covering, off, width));
     }
-    Field::Value(covered(s, k, off, width))
+    Some(covered(covering, off, width))
 }
 
 // The same number for a caller that has looked at the length; 0 for a field that is outside.
@@ -114,21 +84,17 @@ pub fn value(s: &[u8], at: usize, width: usize) -> u64
     ensures { result ≡ value_in (field_at s.now at width) }
 {
     match read(s, at, width) {
-        Field::Value(v) => v,
-        Field::Outside => 0,
+        Some(v) => v,
+        None => 0,
     }
 }
 
-// Writes v in the n bytes from byte k on.
-fn put_bytes(s: &mut [u8], k: usize, n: usize, v: u64)
-    requires { (n ≤ widest_bytes) × (k + n ≤ length s.old) }
-    ensures { s.new ≡ put s.old k (bytes n v) }
+// Writes v in up to eight bytes.
+fn put_bytes(s: &mut [u8], v: u64)
+    requires { length s.old ≤ widest_bytes }
+    ensures { s.new ≡ bytes (length s.old) v }
 {
-    let mut i: usize = 0;
-    while i < n {
-        s[k + i] = ((v >> (8 * (n - 1 - i))) % 256) as u8;
-        i += 1;
-    }
+    s.copy_from_slice(&v.to_be_bytes()[WIDEST_BYTES - s.len()..]);
 }
 
 // The same for any numbers: says whether the bytes lie in s and are at most a word's, and writes nothing where not.
@@ -137,15 +103,9 @@ pub fn write(s: &mut [u8], k: usize, n: usize, v: u64) -> bool
     ensures value { result ≡ room_for s.old k n }
     ensures s_after { s.new ≡ written s.old k n v }
 {
-    if n > WIDEST_BYTES {
+    if n > WIDEST_BYTES || k > s.len() || n > s.len() - k {
         return false;
     }
-    if k > s.len() {
-        return false;
-    }
-    if n > s.len() - k {
-        return false;
-    }
-    put_bytes(s, k, n, v);
+    put_bytes(&mut s[k..k + n], v);
     true
 }

@@ -1,5 +1,6 @@
 -- The cases of reading and of writing, each as a law: what is accepted passed each test, and what is written is its parts in a row.
 -- Assumes nothing.
+use Rattle.std.specs.Prelude.{Err, Ok, Result}
 use Prim.Native.Nat.{ℕ, ◌+◌, ◌-◌, ◌*◌, ◌<◌, ◌≤◌}
 use mathlib.Core.Path.{◌≡◌, refl, sym}
 use mathlib.Core.Bool.{Bool, true, false}
@@ -16,28 +17,27 @@ use Rattle.bitfield.specs.Layout.{join, Fit}
 use Rattle.bitfield.proofs.Laws.{value-lt, length-bytes, put-none, put-put, take_put}
 use Rattle.bitfield.proofs.Round.{join_one, bytes-join}
 use Rattle.board.specs.Description.{most_components, most_cpus, component_of, is_capable, blank_past, unless, within_limit, counts_of, Counted, judged_of}
-use Rattle.board.specs.Packed.{length_of, components_in, board_at, reserved_clear, shape_of, unread, settle, ruled_as, accepted, read_of, digit_of, flag_in, flags_number, head_widths, head_values, tail_widths, tail_values, head_length, tail_length, head_bytes, component_bytes, component_length, bytes_at, bytes_of, writable_of, is_kept, is_writable, board_stands, length_in, put_by, put_of, buffer_of, part_by, part_of, Typed, EachTyped}
+use Rattle.board.specs.Packed.{length_of, components_in, board_at, reserved_clear, shape_of, settle, read_of, digit_of, flag_in, flags_number, head_widths, head_values, tail_widths, tail_values, head_length, tail_length, head_bytes, component_bytes, component_length, bytes_at, bytes_of, writable_of, is_kept, is_writable, board_stands, length_in, put_by, put_of, buffer_of, part_by, part_of, Typed, EachTyped}
 use Rattle.board.specs.declared.Component.{Component}
 use Rattle.board.specs.declared.Board.{Board}
 use Rattle.board.specs.declared.Refusal.{Refusal}
 use Rattle.board.specs.declared.Refusal.TheVariants.{NoRoom}
-use Rattle.board.specs.declared.Ruling.{Ruling}
-use Rattle.board.specs.declared.Ruling.TheVariants.{Kept, Broken}
-use Rattle.board.specs.declared.Verdict.TheVariants.{Accepted, Refused}
-use Rattle.board.specs.declared.Written.{Written}
-use Rattle.board.specs.declared.Written.TheVariants.{Bytes, Nothing}
 
 -- ---- reading
 
-pub components-most : (s : List ℕ) → components_in s ≤ most_components
-components-most s = omega (arith, value-lt s 0 5)
+pub components_most : (s : List ℕ) → components_in s ≤ most_components
+components_most s = omega (arith, value-lt s 0 5)
+
+pub read-few : (s : List ℕ) → (board_at s).components ≤ most_components
+unfolding board_at
+read-few s = components_most s
 
 -- an accepted description passed each test
 passes : {A : Type 0} {taken : A} (ok : Bool) (x v : A) → (x ≡ taken → ⊥) → unless ok x v ≡ taken → (ok ≡ true) × (v ≡ taken)
 passes true x v n e = (refl, e)
 passes false x v n e = absurd (n e)
 
-not-refused : {x : Refusal} → Refused x ≡ Accepted → ⊥
+not-refused : {x : Refusal} → ◌≡◌ {A = Result Unit Refusal} (Err x) (Ok tt) → ⊥
 not-refused e = never cc
 
 -- what has the shape of a description
@@ -45,7 +45,7 @@ pub record Shaped (s : List ℕ) : Type 0 where
   pub whole : length s ≡ length_of (components_in s)
   pub clear : reserved_clear s (components_in s) ≡ true
 
-pub shape-accepted : (s : List ℕ) → shape_of s ≡ Accepted → Shaped s
+pub shape-accepted : (s : List ℕ) → shape_of s ≡ (Ok tt) → Shaped s
 unfolding shape_of
 shape-accepted s e =
     let m = length_of (components_in s) in
@@ -56,13 +56,17 @@ shape-accepted s e =
     let y = leb-true (length s) m exact.0 in
     record { whole = omega arith; clear = (passes (reserved_clear s (components_in s)) _ _ not-refused exact.1).0 }
 
-pub read-shaped : (s : List ℕ) (v : Ruling) (b : Board) → shape_of s ≡ Accepted → b ≡ board_at s → v ≡ judged_of b → settle (ruled_as v) (accepted b) ≡ read_of s
+pub read-shaped : (s : List ℕ) (b : Board) → shape_of s ≡ Ok tt → b ≡ board_at s → judged_of b ≡ Ok tt → Ok b ≡ read_of s
 unfolding read_of
-read-shaped s v b e p q = rw (e, q, p)
+read-shaped s b e p q = rw (e, ← p, q)
 
-pub read-unshaped : (s : List ℕ) (x : Refusal) → shape_of s ≡ Refused x → unread x ≡ read_of s
+pub read-broken : (s : List ℕ) (b : Board) (x : Refusal) → shape_of s ≡ Ok tt → b ≡ board_at s → judged_of b ≡ Err x → Err x ≡ read_of s
 unfolding read_of
-read-unshaped s x e = rw e
+read-broken s b x e p q = rw (e, ← p, q)
+
+pub read-misshaped : (s : List ℕ) (x : Refusal) → shape_of s ≡ Err x → Err x ≡ read_of s
+unfolding read_of
+read-misshaped s x e = rw e
 
 -- ---- writing
 
@@ -78,20 +82,29 @@ counted b e =
     let q = within b.cpus most_cpus (and_right a c e) in
     record { some_components = p.0; few_components = p.1; some_cpus = q.0; few_cpus = q.1 }
 
+pub counted_few : (b : Board) → counts_of b ≡ true → b.components ≤ most_components
+counted_few b e = (counted b e).few_components
+
 pub counts : (b : Board) → Counted b → counts_of b ≡ true
 unfolding within_limit
 counts b k = simp (le-leb _ _ k.some_components, le-leb _ _ k.few_components, le-leb _ _ k.some_cpus, le-leb _ _ k.few_cpus)
 
-pub writable-passes : (b : Board) → writable_of b ≡ Kept → Counted b × (judged_of b ≡ Kept)
+pub writable-passes : (b : Board) → writable_of b ≡ (Ok tt) → Counted b × (judged_of b ≡ (Ok tt))
 unfolding writable_of
 writable-passes b e = let p = passes (counts_of b) _ _ (λ q. never cc) e in (counted b p.0, p.1)
 
-is-kept : (v : Ruling) → is_kept v ≡ true → v ≡ Kept
-is-kept Kept e = refl
-is-kept (Broken x) e = absurd (not-both e refl)
+pub kept-counted : (b : Board) → writable_of b ≡ (Ok tt) → Counted b
+kept-counted b e = (writable-passes b e).0
+
+is-kept : (v : Result Unit Refusal) → is_kept v ≡ true → v ≡ (Ok tt)
+is-kept (Ok tt) e = refl
+is-kept (Err x) e = absurd (not-both e refl)
 
 pub writable-counted : (b : Board) → is_writable b ≡ true → Counted b
 writable-counted b e = (writable-passes b (is-kept (writable_of b) e)).0
+
+pub writable_few : (b : Board) → is_writable b ≡ true → b.components ≤ most_components
+writable_few b e = (writable-counted b e).few_components
 
 pub stands-counted : (b : Board) → board_stands b ≡ true → Counted b
 unfolding board_stands
@@ -169,18 +182,18 @@ length-description b t =
 
 -- the ways that a write ends
 module _ (d : List ℕ) (b : Board) where
-  pub unwritable : (x : Refusal) → writable_of b ≡ Broken x → (Nothing x ≡ put_of (length d) b) × ((d ≡ buffer_of d b) × (0 ≡ length (part_of d b)))
+  pub unwritable : (x : Refusal) → writable_of b ≡ Err x → (Err x ≡ put_of (length d) b) × ((d ≡ buffer_of d b) × (0 ≡ length (part_of d b)))
   unfolding put_of
   unwritable x e = rw e (refl, (put-none d, refl))
 
-  pub by-room : (r : Written) (e : List ℕ) → writable_of b ≡ Kept → r ≡ put_by Kept (length d) (length_of b.components) → e ≡ put d 0 (part_by r b) → length_in r ≡ length (part_by r b) → (r ≡ put_of (length d) b) × ((e ≡ buffer_of d b) × (length_in r ≡ length (part_of d b)))
+  pub by-room : (r : Result ℕ Refusal) (e : List ℕ) → writable_of b ≡ (Ok tt) → r ≡ put_by (Ok tt) (length d) (length_of b.components) → e ≡ put d 0 (part_by r b) → length_in r ≡ length (part_by r b) → (r ≡ put_of (length d) b) × ((e ≡ buffer_of d b) × (length_in r ≡ length (part_of d b)))
   unfolding put_of
   by-room r e w p q l = rw (w, ← p) (refl, (q, l))
 
-  pub no_room : length d < length_of b.components → Nothing NoRoom ≡ put_by Kept (length d) (length_of b.components)
+  pub no_room : length d < length_of b.components → Err NoRoom ≡ put_by (Ok tt) (length d) (length_of b.components)
   no_room h = yes _ (lt-ltb _ _ h) refl
 
-  pub all-written : (h e : List ℕ) → length_of b.components ≤ length d → h ≡ put d 0 (head_bytes b) → e ≡ put h head_length (in_turn b.components (bytes_at b)) → EachTyped b b.components → (Bytes (length_of b.components) ≡ put_by Kept (length d) (length_of b.components)) × ((e ≡ put d 0 (bytes_of b)) × (length_of b.components ≡ length (bytes_of b)))
+  pub all-written : (h e : List ℕ) → length_of b.components ≤ length d → h ≡ put d 0 (head_bytes b) → e ≡ put h head_length (in_turn b.components (bytes_at b)) → EachTyped b b.components → (Ok (length_of b.components) ≡ put_by (Ok tt) (length d) (length_of b.components)) × ((e ≡ put d 0 (bytes_of b)) × (length_of b.components ≡ length (bytes_of b)))
   unfolding bytes_of head_bytes
   all-written h e g p q t =
       let l = length-in_turn (bytes_at b) component_length b.components (λ i k. typed_long (component_of b i) (t i k)) in
@@ -198,14 +211,23 @@ put-fits room b = go (writable_of b)
     n : ℕ
     n = length_of b.components
 
-    go : (v : Ruling) → length_in (put_by v room n) ≤ room
-    go (Broken x) = omega arith
-    go Kept = pick-cases (λ (w : Written). length_in w ≤ room) (ltb room n) (Nothing NoRoom) (Bytes n) (λ _. omega arith) (λ t. ltb-false room n t)
+    go : (v : Result Unit Refusal) → length_in (put_by v room n) ≤ room
+    go (Err x) = omega arith
+    go (Ok tt) = pick-cases (λ (w : Result ℕ Refusal). length_in w ≤ room) (ltb room n) (Err NoRoom) (Ok n) (λ _. omega arith) (λ t. ltb-false room n t)
 
 -- the part is what stands at the start of the buffer
 pub part-written : (d : List ℕ) (b : Board) (n : ℕ) → n ≡ length (part_of d b) → n ≤ length d → take n (buffer_of d b) ≡ part_of d b
 part-written d b n = go (put_of (length d) b)
   where
-    go : (w : Written) → n ≡ length (part_by w b) → n ≤ length d → take n (put d 0 (part_by w b)) ≡ part_by w b
-    go (Bytes m) e h = take_put d 0 n (bytes_of b) (omega arith) h
-    go (Nothing x) e h = rw e
+    go : (w : Result ℕ Refusal) → n ≡ length (part_by w b) → n ≤ length d → take n (put d 0 (part_by w b)) ≡ part_by w b
+    go (Ok m) e h = take_put d 0 n (bytes_of b) (omega arith) h
+    go (Err x) e h = rw e
+
+-- what the readers' and writers' clauses follow by
+pub ruleset reads = (shape-accepted, read-shaped, read-broken, read-misshaped, read-few)
+
+pub ruleset writes = (kept-counted, unwritable, by-room)
+
+pub ruleset parts = (put-fits, part-written)
+
+pub ruleset rooms = (no_room, put-none)

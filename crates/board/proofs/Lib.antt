@@ -1,4 +1,5 @@
 pub mod Laws
+pub mod Lists
 pub mod Marks
 pub mod Round
 pub mod Numbers

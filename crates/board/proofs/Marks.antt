@@ -45,10 +45,6 @@ module _ {cs : List Component} {i : ℕ} {met : List Bool} (w : Met cs i met) wh
       (λ j l. ap not (refuted _
       (λ e. not-both (all-at i (is_met met cs) w.each j l) (ap (λ (m : ℕ). get_or met m false) (mark-same _ _ e) ∙ q))))
 
-  -- a turn passed a mark that was met
-  pub met-again : is_met met cs i ≡ true → Met cs (i + 1) met
-  met-again q = record { long = w.long; each = all_more _ i w.each q }
-
   -- a turn set one more, and those met stay so
   pub met-more : Met cs (i + 1) (set met (mark_at cs i) true)
   met-more =

@@ -1,5 +1,6 @@
 -- The refusal of a reading or writing is the first of document 01's table that applies: case by case, up to the first test that fails.
 -- Assumes nothing.
+use Rattle.std.specs.Prelude.{Err, Ok, Result}
 use Prim.Native.Nat.{ℕ}
 use mathlib.Core.Path.{◌≡◌, refl, ap, ◌∙◌}
 use mathlib.Core.Bool.{Bool, true, false, not, ◌&&◌}
@@ -9,17 +10,11 @@ use lib.ListN.{length}
 use Rattle.basics.specs.Choice.{pick}
 use Rattle.basics.specs.First.{first_of}
 use Rattle.board.specs.Description.{unless, counts_of, apart, distinct, judged_of, number_of}
-use Rattle.board.specs.Packed.{length_of, components_in, reserved_clear, board_at, shape_of, accepted, settle, ruled_as, read_of, writable_of, put_by, put_of}
-use Rattle.board.specs.Numbers.{refusal_of, refusal_in, read_rows, put_rows}
+use Rattle.board.specs.Packed.{length_of, components_in, reserved_clear, board_at, shape_of, settle, read_of, writable_of, put_by, put_of}
+use Rattle.board.specs.Numbers.{refusal_of, read_rows, put_rows}
 use Rattle.board.specs.declared.Board.{Board}
-use Rattle.board.specs.declared.ReadBoard.{ReadBoard}
 use Rattle.board.specs.declared.Refusal.{Refusal}
 use Rattle.board.specs.declared.Refusal.TheVariants.{TooShort, TooLong, ReservedBit, FirstAboveLast, OptionalMayReset, UuidTwice, CountOutside, NoRoom}
-use Rattle.board.specs.declared.Ruling.{Ruling}
-use Rattle.board.specs.declared.Ruling.TheVariants.{Kept, Broken}
-use Rattle.board.specs.declared.Verdict.TheVariants.{Accepted, Refused}
-use Rattle.board.specs.declared.Written.{Written}
-use Rattle.board.specs.declared.Written.TheVariants.{Bytes, Nothing}
 
 -- 0 is no refusal's number
 pub number-some : (x : Refusal) → eqb (number_of x) 0 ≡ false
@@ -33,11 +28,11 @@ number-some CountOutside = refl
 number-some NoRoom = refl
 
 -- the rules of a description itself, test by test
-abbrev by_tests : Bool → Bool → Bool → Ruling
-by_tests range flags uuids = unless range (Broken FirstAboveLast) (unless flags (Broken OptionalMayReset) (unless uuids (Broken UuidTwice) Kept))
+abbrev by_tests : Bool → Bool → Bool → Result Unit Refusal
+by_tests range flags uuids = unless range (Err FirstAboveLast) (unless flags (Err OptionalMayReset) (unless uuids (Err UuidTwice) (Ok tt)))
 
 read_first : (two long short clear range flags uuids : Bool) (b : Board)
-    → refusal_of (settle (unless two (Refused TooShort) (unless long (Refused TooShort) (unless short (Refused TooLong) (unless clear (Refused ReservedBit) Accepted)))) (settle (ruled_as (by_tests range flags uuids)) (accepted b))).verdict
+    → refusal_of (settle (unless two (Err TooShort) (unless long (Err TooShort) (unless short (Err TooLong) (unless clear (Err ReservedBit) (Ok tt))))) (settle (by_tests range flags uuids) (Ok b)))
     ≡ first_of ((20, not (two && long)) ∷ (21, not short) ∷ (22, not clear) ∷ (23, not range) ∷ (24, not flags) ∷ (25, not uuids) ∷ [])
 read_first false long short clear range flags uuids b = refl
 read_first true false short clear range flags uuids b = refl
@@ -49,16 +44,16 @@ read_first true true true true true true false b = refl
 read_first true true true true true true true b = refl
 
 -- of what a reading gives
-pub read-given : (s : List ℕ) (x : ReadBoard) → x ≡ read_of s → refusal_of x.verdict ≡ first_of (read_rows s)
+pub read-given : (s : List ℕ) (x : Result Board Refusal) → x ≡ read_of s → refusal_of x ≡ first_of (read_rows s)
 unfolding read_of shape_of judged_of
 read-given s x e =
     let n = components_in s in
     let b = board_at s in
-    ap (λ (r : ReadBoard). refusal_of r.verdict) e
+    ap refusal_of e
     ∙ read_first (leb 2 (length s)) (leb (length_of n) (length s)) (leb (length s) (length_of n)) (reserved_clear s n) (leb b.first b.last) (apart b) (distinct b) b
 
 put_first : (counts range flags uuids : Bool) (room n : ℕ)
-    → refusal_in (put_by (unless counts (Broken CountOutside) (by_tests range flags uuids)) room n)
+    → refusal_of (put_by (unless counts (Err CountOutside) (by_tests range flags uuids)) room n)
     ≡ first_of ((26, not counts) ∷ (23, not range) ∷ (24, not flags) ∷ (25, not uuids) ∷ (27, ltb room n) ∷ [])
 put_first false range flags uuids room n = refl
 put_first true false flags uuids room n = refl
@@ -66,11 +61,19 @@ put_first true true false uuids room n = refl
 put_first true true true false room n = refl
 put_first true true true true room n = go (ltb room n)
   where
-    go : (full : Bool) → refusal_in (pick full (Nothing NoRoom) (Bytes n)) ≡ first_of ((27, full) ∷ [])
+    go : (full : Bool) → refusal_of (pick full (Err NoRoom) (Ok n)) ≡ first_of ((27, full) ∷ [])
     go true = refl
     go false = refl
 
-pub put-given : (room : ℕ) (b : Board) (w : Written) → w ≡ put_of room b → refusal_in w ≡ first_of (put_rows room b)
+pub put-given : (room : ℕ) (b : Board) (w : Result ℕ Refusal) → w ≡ put_of room b → refusal_of w ≡ first_of (put_rows room b)
 unfolding put_of writable_of judged_of
 put-given room b w e =
-    ap refusal_in e ∙ put_first (counts_of b) (leb b.first b.last) (apart b) (distinct b) room (length_of b.components)
+    ap refusal_of e ∙ put_first (counts_of b) (leb b.first b.last) (apart b) (distinct b) room (length_of b.components)
+
+pub put-refused : (room : ℕ) (b : Board) (x : Refusal) → writable_of b ≡ Err x → number_of x ≡ first_of (put_rows room b)
+unfolding put_of
+put-refused room b x e = put-given room b (Err x) (rw e)
+
+pub ruleset puts = (put-given)
+
+pub ruleset gives = (read-given)

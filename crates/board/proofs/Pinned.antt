@@ -3,6 +3,8 @@ use mathlib.Core.Path.{refl}
 use Rattle.basics.proofs.Pin.{OneBy, OneOutcome, OneMutPart, same, just, both}
 use Rattle.board.proofs.number.Kinds as number-kinds
 use Rattle.board.proofs.number.Reads as number-reads
+use Rattle.board.proofs.blank.Kinds as blank-kinds
+use Rattle.board.proofs.blank.Reads as blank-reads
 use Rattle.board.proofs.digit.Kinds as digit-kinds
 use Rattle.board.proofs.digit.Reads as digit-reads
 use Rattle.board.proofs.good_entry.Kinds as good-entry-kinds
@@ -26,6 +28,9 @@ use Rattle.board.proofs.write_board.Reads as write-board-reads
 
 pub number-pinned : OneOutcome 0 number-kinds.ps number-kinds.r number-reads.Post
 number-pinned κs a z z' ws ws' p q = just p q
+
+pub blank-pinned : OneOutcome 0 blank-kinds.ps blank-kinds.r blank-reads.Post
+blank-pinned κs a z z' ws ws' p q = just p q
 
 pub digit-pinned : OneOutcome 0 digit-kinds.ps digit-kinds.r digit-reads.Post
 digit-pinned κs a z z' ws ws' p q = just p.0 q.0

@@ -1,5 +1,6 @@
 -- A description that was written reads back, and bytes that read are those that writing gives: the head and each tail by bitfield's round
 -- trip of a layout, each UUID byte by byte. Assumes nothing.
+use Rattle.std.specs.Prelude.{Err, Ok, Result}
 use Prim.Native.Nat.{ℕ, ◌+◌, ◌-◌, ◌*◌, ◌<◌, ◌≤◌}
 use mathlib.Core.Path.{◌≡◌, refl, sym, ap, ap₂, ◌∙◌}
 use mathlib.Core.Bool.{true, not}
@@ -19,17 +20,11 @@ use Rattle.bitfield.specs.Layout.{fields, field_of, join, Fit}
 use Rattle.bitfield.proofs.Laws.{length-bytes, value-lt, value-byte, firsts-bytes}
 use Rattle.bitfield.proofs.Round.{value-front, value_after, value-in_turn, fields-are, fields-drop, read-written, written-front}
 use Rattle.board.specs.Description.{most_components, uuid_bytes, blank, absent, component_of, same_uuid, parted_of, parted, unseen, unlike, apart, distinct, judged_of, Counted, is_blank, blank_past}
-use Rattle.board.specs.Packed.{head_widths, tail_widths, head_length, tail_length, component_length, length_of, start_of, head_field, components_in, uuid_at, tail_field, flag_at, component_at, board_at, zero_at, reserved_clear, shape_of, settle, ruled_as, accepted, read_of, digit_of, head_values, tail_values, head_bytes, component_bytes, bytes_at, bytes_of, writable_of, board_stands, Described, DescribedIf, trimmed, ReadsBack, WritesBackBy, WritesBack}
+use Rattle.board.specs.Packed.{head_widths, tail_widths, head_length, tail_length, component_length, length_of, start_of, head_field, components_in, uuid_at, tail_field, flag_at, component_at, board_at, zero_at, reserved_clear, shape_of, settle, read_of, digit_of, head_values, tail_values, head_bytes, component_bytes, bytes_at, bytes_of, writable_of, board_stands, Described, DescribedIf, trimmed, ReadsBack, WritesBack}
 use Rattle.board.specs.declared.Component.{Component}
 use Rattle.board.specs.declared.Board.{Board}
-use Rattle.board.specs.declared.ReadBoard.{ReadBoard}
-use Rattle.board.specs.declared.Written.{Written}
-use Rattle.board.specs.declared.Written.TheVariants.{Bytes, Nothing}
-use Rattle.board.specs.declared.Ruling.{Ruling}
-use Rattle.board.specs.declared.Ruling.TheVariants.{Kept, Broken}
-use Rattle.board.specs.declared.Verdict.{Verdict}
-use Rattle.board.specs.declared.Verdict.TheVariants.{Accepted, Refused}
 use Rattle.board.proofs.Laws.{digit-fits, flag-digit, digit-flag, counts, writable-passes, typed_long, Shaped, shape-accepted}
+use Rattle.board.specs.declared.Refusal.{Refusal}
 
 -- ---- what is written: its places
 
@@ -126,7 +121,7 @@ module _ (b : Board) (d : Described b) (k : Counted b) where
   unfolding reserved_clear
   reserved-back = rw (eq-eqb _ _ head-back.2, count-back) (all_of b.components (zero_at bs) zero-back)
 
-  shape-back : shape_of bs ≡ Accepted
+  shape-back : shape_of bs ≡ (Ok tt)
   unfolding shape_of
   shape-back =
       let n = bytes-long in
@@ -153,16 +148,16 @@ module _ (b : Board) where
       rw (p, q)
 
   -- a description that the writer takes reads back as written, with blanks past its count
-  pub reads-back : Described b → writable_of b ≡ Kept → read_of (bytes_of b) ≡ accepted (trimmed b)
+  pub reads-back : Described b → writable_of b ≡ (Ok tt) → read_of (bytes_of b) ≡ Ok (trimmed b)
   unfolding read_of
   reads-back d w =
       let p = writable-passes b w in
       rw (shape-back b d p.0, board-back b d p.0, judged-trimmed, p.1)
 
   -- the same of what a write did
-  pub written_back : (r : Written) → DescribedIf r b → writable_of b ≡ Kept → ReadsBack r b
-  written_back (Bytes n) d w = reads-back d w
-  written_back (Nothing x) d w = tt
+  pub written_back : (r : Result ℕ Refusal) → DescribedIf r b → writable_of b ≡ (Ok tt) → ReadsBack r b
+  written_back (Ok n) d w = reads-back d w
+  written_back (Err x) d w = tt
 
 -- ---- what is read: its places
 
@@ -234,42 +229,34 @@ module _ (s : List ℕ) (bs : AreBytes s) (sh : Shaped s) where
       (take-append-drop head_length s)
 
 -- an accepted reading passed both verdicts, and says what the bytes say
-settled : (v : Verdict) (r : ReadBoard) (b : Board) → settle v r ≡ accepted b → (v ≡ Accepted) × (r ≡ accepted b)
-settled Accepted r b e = (refl, e)
-settled (Refused x) r b e =
-    let v = ap (λ (u : ReadBoard). u.verdict) e in never cc
-
-ruled-kept : (v : Ruling) → ruled_as v ≡ Accepted → v ≡ Kept
-ruled-kept Kept e = refl
-ruled-kept (Broken x) e = never cc
+settled : (v : Result Unit Refusal) (r : Result Board Refusal) (b : Board) → settle v r ≡ Ok b → (v ≡ Ok tt) × (r ≡ Ok b)
+settled (Ok tt) r b e = (refl, e)
+settled (Err x) r b e = never cc
 
 record Read (s : List ℕ) (b : Board) : Type 0 where
-  shaped : shape_of s ≡ Accepted
-  judged : judged_of (board_at s) ≡ Kept
+  shaped : shape_of s ≡ (Ok tt)
+  judged : judged_of (board_at s) ≡ (Ok tt)
   says : board_at s ≡ b
 
-read-inv : (s : List ℕ) (b : Board) → read_of s ≡ accepted b → Read s b
+read-inv : (s : List ℕ) (b : Board) → read_of s ≡ Ok b → Read s b
 unfolding read_of
 read-inv s b e =
     let p = settled (shape_of s) _ b e in
-    let q = settled (ruled_as (judged_of (board_at s))) _ b p.1 in
-    record { shaped = p.0; judged = ruled-kept (judged_of (board_at s)) q.0; says = ap (λ (r : ReadBoard). r.board) q.1 }
+    let q = settled (judged_of (board_at s)) _ b p.1 in
+    record { shaped = p.0; judged = q.0; says = cc }
 
 -- bytes that read are those that writing what they say gives
-pub writes-back : (s : List ℕ) (b : Board) → AreBytes s → read_of s ≡ accepted b → bytes_of b ≡ s
+pub writes-back : (s : List ℕ) (b : Board) → AreBytes s → read_of s ≡ Ok b → bytes_of b ≡ s
 writes-back s b bs e =
     let i = read-inv s b e in rw (← i.says) (bytes-again s bs (shape-accepted s i.shaped))
 
 -- the same of what a reading gives
-pub read_back : (s : List ℕ) (r : ReadBoard) → AreBytes s → r ≡ read_of s → WritesBack r s
-read_back s r bs e = go r.verdict refl
-  where
-    go : (v : Verdict) → r.verdict ≡ v → WritesBackBy v r.board s
-    go (Refused x) h = tt
-    go Accepted h = writes-back s r.board bs (sym e ∙ ap (λ (v : Verdict). record { verdict = v; board = r.board }) h)
+pub read_back : (s : List ℕ) (r : Result Board Refusal) → AreBytes s → r ≡ read_of s → WritesBack r s
+read_back s (Ok b) bs e = writes-back s b bs (sym e)
+read_back s (Err x) _ e = tt
 
 -- so each readable description has a single byte form
-pub single-form : (s t : List ℕ) (b : Board) → AreBytes s → AreBytes t → read_of s ≡ accepted b → read_of t ≡ accepted b → s ≡ t
+pub single-form : (s t : List ℕ) (b : Board) → AreBytes s → AreBytes t → read_of s ≡ Ok b → read_of t ≡ Ok b → s ≡ t
 single-form s t b p q e f = sym (writes-back s b p e) ∙ writes-back t b q f
 
 -- ---- what reads can be written, and reads back
@@ -300,7 +287,7 @@ read-described s =
       });
     }
 
-pub read-writable : (s : List ℕ) (b : Board) → read_of s ≡ accepted b → Described b × (writable_of b ≡ Kept)
+pub read-writable : (s : List ℕ) (b : Board) → read_of s ≡ Ok b → Described b × (writable_of b ≡ (Ok tt))
 unfolding writable_of
 read-writable s b e =
     let i = read-inv s b e in
@@ -313,12 +300,12 @@ read-blank s =
     all_of (most_components - n) _ (λ j l. ap is_blank (get_or-past (λ i. component_at s (start_of i)) most_components blank n j absent l))
 
 -- a board that reading gives stands in a record
-pub read-stands : (s : List ℕ) (b : Board) → read_of s ≡ accepted b → board_stands b ≡ true
+pub read-stands : (s : List ℕ) (b : Board) → read_of s ≡ Ok b → board_stands b ≡ true
 unfolding board_stands
 read-stands s b e = rw ((read-writable s b e).1, ← (read-inv s b e).says) (read-blank s)
 
 -- and its table has all its places
-pub read-long : (s : List ℕ) (b : Board) → read_of s ≡ accepted b → length b.component ≡ most_components
+pub read-long : (s : List ℕ) (b : Board) → read_of s ≡ Ok b → length b.component ≡ most_components
 unfolding board_at
 read-long s b e =
     rw (← (read-inv s b e).says) (length-table (λ i. component_at s (start_of i)) most_components blank (components_in s) (read-counted s).few_components)

@@ -1,14 +1,12 @@
 -- The board description (document 01, "The board and its record"), which entries are good ("Calls"), and when a description is
 -- refused ("Events and what they answer"). Assumes nothing.
-use Rattle.std.specs.Prelude.{ℕ, ◌+◌, ◌-◌, ◌%◌, ◌≤◌, Bool, true, false, not, ◌&&◌, List, [], eqb, leb, ltb, get_or, replicate}
+use Rattle.std.specs.Prelude.{ℕ, ◌+◌, ◌-◌, ◌%◌, ◌≤◌, Bool, true, false, not, ◌&&◌, List, [], eqb, leb, ltb, get_or, replicate, Err, Ok, Result}
 use Rattle.basics.specs.Choice.{pick}
 use Rattle.basics.specs.Every.{all_below}
 use Rattle.board.specs.declared.Component.{Component}
 use Rattle.board.specs.declared.Board.{Board}
 use Rattle.board.specs.declared.Refusal.{Refusal}
 use Rattle.board.specs.declared.Refusal.TheVariants.{TooShort, TooLong, ReservedBit, FirstAboveLast, OptionalMayReset, UuidTwice, CountOutside, NoRoom}
-use Rattle.board.specs.declared.Ruling.{Ruling}
-use Rattle.board.specs.declared.Ruling.TheVariants.{Kept, Broken}
 
 -- the limits of both counts, and the bytes of a UUID (Board 1 and 2)
 abbrev pub most_components : ℕ
@@ -113,12 +111,12 @@ abbrev pub distinct : Board → Bool
 distinct b = all_below b.components (unseen b.component)
 
 -- 23, 24, 25: the range, then the flags, then the UUIDs
-unfoldable pub judged_of : Board → Ruling
+unfoldable pub judged_of : Board → Result Unit Refusal
 judged_of b =
-    unless (leb b.first b.last) (Broken FirstAboveLast)
-    (unless (apart b) (Broken OptionalMayReset)
-    (unless (distinct b) (Broken UuidTwice)
-    Kept))
+    unless (leb b.first b.last) (Err FirstAboveLast)
+    (unless (apart b) (Err OptionalMayReset)
+    (unless (distinct b) (Err UuidTwice)
+    (Ok tt)))
 
 -- document 01's number of each refusal
 abbrev pub number_of : Refusal → ℕ

@@ -1,18 +1,16 @@
 -- Document 01's bench examples of the board (marked P), and each refusal of a reader and a writer once: one claim over one
 -- list. Assumes nothing.
-use Rattle.std.specs.Prelude.{ℕ, ◌+◌, ◌≡◌, refl, Bool, true, false, List, [], ◌∷◌, ◌++◌, eqb, length, get_or, take, set, replicate}
+use Rattle.std.specs.Prelude.{ℕ, ◌+◌, ◌≡◌, refl, Bool, true, false, List, [], ◌∷◌, ◌++◌, eqb, length, get_or, take, set, replicate, Err, Ok, Result}
 use Rattle.basics.specs.Every.{all_below, all_hold}
 use Rattle.basics.specs.Places.{firsts, in_turn}
 use Rattle.bitfield.specs.Bits.{bit_at, value_at, bytes, put}
 use Rattle.bitfield.specs.Layout.{join}
 use Rattle.board.specs.Description.{blank, within_limit, judged_of, number_of}
-use Rattle.board.specs.Packed.{component_at, board_at, reserved_clear, shape_of, read_of, head_bytes, component_bytes, bytes_of, writable_of, put_of, buffer_of, part_of}
+use Rattle.board.specs.Packed.{component_at, board_at, reserved_clear, shape_of, read_of, board_in, head_bytes, component_bytes, bytes_of, writable_of, put_of, buffer_of, part_of}
+use Rattle.board.specs.Numbers.{refusal_of}
 use Rattle.board.specs.declared.Component.{Component}
 use Rattle.board.specs.declared.Board.{Board}
-use Rattle.board.specs.declared.Verdict.{Verdict}
-use Rattle.board.specs.declared.Verdict.TheVariants.{Accepted, Refused}
-use Rattle.board.specs.declared.Written.{Written}
-use Rattle.board.specs.declared.Written.TheVariants.{Bytes, Nothing}
+use Rattle.board.specs.declared.Refusal.{Refusal}
 
 -- a component whose UUID bytes are k, k + 1, ..
 abbrev part : ℕ → Bool → Bool → Component
@@ -25,19 +23,15 @@ abbrev two : Board
 two = board 2 4 0x1FFF (part 0 true false ∷ part 16 false true ∷ [])
 
 -- 0 for an accepted description, else the number of its refusal
-abbrev refusal : Verdict → ℕ
-refusal Accepted = 0
-refusal (Refused x) = number_of x
-
 abbrev reading : List ℕ → ℕ
-reading s = refusal (read_of s).verdict
+reading s = refusal_of (read_of s)
 
 abbrev writing : ℕ → Board → ℕ
 writing room b = by (put_of room b)
   where
-    by : Written → ℕ
-    by (Bytes n) = n
-    by (Nothing x) = number_of x
+    by : Result ℕ Refusal → ℕ
+    by (Ok n) = n
+    by (Err x) = number_of x
 
 unfoldable pub examples : List Bool
 unfolding all_below firsts in_turn bit_at value_at bytes put join within_limit judged_of component_at board_at reserved_clear shape_of read_of head_bytes component_bytes bytes_of writable_of put_of
@@ -47,7 +41,7 @@ examples =
     ∷ eqb (get_or (bytes_of two) 1 0) 0x60
     ∷ eqb (length (bytes_of two)) 60
     ∷ eqb (reading (bytes_of two)) 0
-    ∷ eqb (read_of (bytes_of two)).board.cpus 4
+    ∷ eqb (board_in (read_of (bytes_of two))).cpus 4
     ∷ eqb (reading []) 20
     ∷ eqb (reading (8 ∷ [])) 20
     ∷ eqb (reading (take 59 (bytes_of two))) 20

@@ -1,22 +1,15 @@
 -- What reading and writing a board answer, in document 01's numbers ("Events and what they answer"). Assumes nothing.
-use Rattle.std.specs.Prelude.{ℕ, not, ◌&&◌, List, [], ◌∷◌, ◌++◌, leb, ltb, length}
+use Rattle.std.specs.Prelude.{ℕ, not, ◌&&◌, List, [], ◌∷◌, ◌++◌, leb, ltb, length, Err, Ok, Result}
 use Rattle.basics.specs.First.{Row}
 use Rattle.board.specs.Description.{counts_of, apart, distinct, number_of}
 use Rattle.board.specs.Packed.{length_of, components_in, reserved_clear, board_at}
 use Rattle.board.specs.declared.Board.{Board}
-use Rattle.board.specs.declared.Verdict.{Verdict}
-use Rattle.board.specs.declared.Verdict.TheVariants.{Accepted, Refused}
-use Rattle.board.specs.declared.Written.{Written}
-use Rattle.board.specs.declared.Written.TheVariants.{Bytes, Nothing}
+use Rattle.board.specs.declared.Refusal.{Refusal}
 
 -- the number of the refusal, 0 where there is none; how many bytes were written is `length_in`
-abbrev pub refusal_of : Verdict → ℕ
-refusal_of Accepted = 0
-refusal_of (Refused x) = number_of x
-
-abbrev pub refusal_in : Written → ℕ
-refusal_in (Bytes n) = 0
-refusal_in (Nothing x) = number_of x
+abbrev pub refusal_of : {A : Type 0} → Result A Refusal → ℕ
+refusal_of (Ok x) = 0
+refusal_of (Err x) = number_of x
 
 -- what a description itself is refused for (Events 15)
 abbrev pub board_rows : Board → List Row

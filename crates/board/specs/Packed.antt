@@ -1,6 +1,6 @@
 -- The packed form of a board description (document 01, "Packed forms, most significant bit first"), and its refusals ("Events and
 -- what they answer"). Assumes nothing.
-use Rattle.std.specs.Prelude.{ℕ, ◌+◌, ◌-◌, ◌*◌, ◌^◌, ◌<◌, ◌≡◌, Bool, true, false, ◌&&◌, List, [], ◌∷◌, ◌++◌, eqb, leb, ltb, length}
+use Rattle.std.specs.Prelude.{ℕ, ◌+◌, ◌-◌, ◌*◌, ◌^◌, ◌<◌, ◌≡◌, Bool, true, false, ◌&&◌, List, [], ◌∷◌, ◌++◌, eqb, leb, ltb, length, Err, Ok, Result}
 use Rattle.basics.specs.Choice.{pick}
 use Rattle.basics.specs.Every.{all_below}
 use Rattle.basics.specs.Places.{firsts, table, in_turn}
@@ -11,13 +11,6 @@ use Rattle.board.specs.declared.Component.{Component}
 use Rattle.board.specs.declared.Board.{Board}
 use Rattle.board.specs.declared.Refusal.{Refusal}
 use Rattle.board.specs.declared.Refusal.TheVariants.{TooShort, TooLong, ReservedBit, CountOutside, NoRoom}
-use Rattle.board.specs.declared.Ruling.{Ruling}
-use Rattle.board.specs.declared.Ruling.TheVariants.{Kept, Broken}
-use Rattle.board.specs.declared.Verdict.{Verdict}
-use Rattle.board.specs.declared.Verdict.TheVariants.{Accepted, Refused}
-use Rattle.board.specs.declared.ReadBoard.{ReadBoard}
-use Rattle.board.specs.declared.Written.{Written}
-use Rattle.board.specs.declared.Written.TheVariants.{Bytes, Nothing}
 
 -- the head (Packed 1): both counts less 1, zero, and the two ends of the range
 abbrev pub head_widths : List ℕ
@@ -93,32 +86,26 @@ unfoldable pub reserved_clear : List ℕ → ℕ → Bool
 reserved_clear s n = eqb (head_field s 2) 0 && all_below n (zero_at s)
 
 -- 20, 21, 22: fewer bytes than the counts call for, more of them, a zero bit that is set
-unfoldable pub shape_of : List ℕ → Verdict
+unfoldable pub shape_of : List ℕ → Result Unit Refusal
 shape_of s =
-    unless (leb 2 (length s)) (Refused TooShort)
-    (unless (leb (length_of (components_in s)) (length s)) (Refused TooShort)
-    (unless (leb (length s) (length_of (components_in s))) (Refused TooLong)
-    (unless (reserved_clear s (components_in s)) (Refused ReservedBit)
-    Accepted)))
-
-abbrev pub accepted : Board → ReadBoard
-accepted b = record { verdict = Accepted; board = b }
+    unless (leb 2 (length s)) (Err TooShort)
+    (unless (leb (length_of (components_in s)) (length s)) (Err TooShort)
+    (unless (leb (length s) (length_of (components_in s))) (Err TooLong)
+    (unless (reserved_clear s (components_in s)) (Err ReservedBit)
+    (Ok tt))))
 
 -- a refusal comes with nothing else
-abbrev pub unread : Refusal → ReadBoard
-unread x = record { verdict = Refused x; board = blank_board }
+abbrev pub settle : Result Unit Refusal → Result Board Refusal → Result Board Refusal
+settle (Ok tt) r = r
+settle (Err x) r = Err x
 
-abbrev pub settle : Verdict → ReadBoard → ReadBoard
-settle Accepted r = r
-settle (Refused x) r = unread x
+unfoldable pub read_of : List ℕ → Result Board Refusal
+read_of s = settle (shape_of s) (settle (judged_of (board_at s)) (Ok (board_at s)))
 
--- the rules of the description itself, as reading's verdict
-abbrev pub ruled_as : Ruling → Verdict
-ruled_as Kept = Accepted
-ruled_as (Broken x) = Refused x
-
-unfoldable pub read_of : List ℕ → ReadBoard
-read_of s = settle (shape_of s) (settle (ruled_as (judged_of (board_at s))) (accepted (board_at s)))
+-- the board that was read; zeros, which no board is, where there is none
+abbrev pub board_in : Result Board Refusal → Board
+board_in (Ok b) = b
+board_in (Err x) = blank_board
 
 -- ---- writing
 
@@ -146,12 +133,12 @@ unfoldable pub bytes_of : Board → List ℕ
 bytes_of b = head_bytes b ++ in_turn b.components (bytes_at b)
 
 -- 26, 23, 24, 25
-unfoldable pub writable_of : Board → Ruling
-writable_of b = unless (counts_of b) (Broken CountOutside) (judged_of b)
+unfoldable pub writable_of : Board → Result Unit Refusal
+writable_of b = unless (counts_of b) (Err CountOutside) (judged_of b)
 
-abbrev pub is_kept : Ruling → Bool
-is_kept Kept = true
-is_kept (Broken x) = false
+abbrev pub is_kept : Result Unit Refusal → Bool
+is_kept (Ok tt) = true
+is_kept (Err x) = false
 
 abbrev pub is_writable : Board → Bool
 is_writable b = is_kept (writable_of b)
@@ -161,22 +148,22 @@ unfoldable pub board_stands : Board → Bool
 board_stands b = is_writable b && blank_past b
 
 -- 27 last
-abbrev pub put_by : Ruling → ℕ → ℕ → Written
-put_by (Broken x) room n = Nothing x
-put_by Kept room n = pick (ltb room n) (Nothing NoRoom) (Bytes n)
+abbrev pub put_by : Result Unit Refusal → ℕ → ℕ → Result ℕ Refusal
+put_by (Err x) room n = Err x
+put_by (Ok tt) room n = pick (ltb room n) (Err NoRoom) (Ok n)
 
-unfoldable pub put_of : ℕ → Board → Written
+unfoldable pub put_of : ℕ → Board → Result ℕ Refusal
 put_of room b = put_by (writable_of b) room (length_of b.components)
 
 -- how many bytes were written
-abbrev pub length_in : Written → ℕ
-length_in (Bytes n) = n
-length_in (Nothing x) = 0
+abbrev pub length_in : Result ℕ Refusal → ℕ
+length_in (Ok n) = n
+length_in (Err x) = 0
 
 -- the part that was written, empty with a refusal
-abbrev pub part_by : Written → Board → List ℕ
-part_by (Bytes n) b = bytes_of b
-part_by (Nothing x) b = []
+abbrev pub part_by : Result ℕ Refusal → Board → List ℕ
+part_by (Ok n) b = bytes_of b
+part_by (Err x) b = []
 
 abbrev pub part_of : List ℕ → Board → List ℕ
 part_of d b = part_by (put_of (length d) b) b
@@ -202,9 +189,9 @@ pub record Described (b : Board) : Type 0 where
   pub last : b.last < 2 ^ 64
   pub each : EachTyped b b.components
 
-abbrev pub DescribedIf : Written → Board → Type 0
-DescribedIf (Bytes n) b = Described b
-DescribedIf (Nothing x) b = Unit
+abbrev pub DescribedIf : Result ℕ Refusal → Board → Type 0
+DescribedIf (Ok n) b = Described b
+DescribedIf (Err x) b = Unit
 
 -- a board with blanks past its count
 abbrev pub trimmed : Board → Board
@@ -212,14 +199,11 @@ trimmed b =
     record { components = b.components; cpus = b.cpus; first = b.first; last = b.last; component = table most_components blank b.components (component_of b) }
 
 -- a description that was written reads back as written
-abbrev pub ReadsBack : Written → Board → Type 0
-ReadsBack (Bytes n) b = read_of (bytes_of b) ≡ accepted (trimmed b)
-ReadsBack (Nothing x) b = Unit
+abbrev pub ReadsBack : Result ℕ Refusal → Board → Type 0
+ReadsBack (Ok n) b = read_of (bytes_of b) ≡ Ok (trimmed b)
+ReadsBack (Err x) b = Unit
 
 -- a description that was read is the one byte form of what it says
-abbrev pub WritesBackBy : Verdict → Board → List ℕ → Type 0
-WritesBackBy Accepted b s = bytes_of b ≡ s
-WritesBackBy (Refused x) b s = Unit
-
-abbrev pub WritesBack : ReadBoard → List ℕ → Type 0
-WritesBack r s = WritesBackBy r.verdict r.board s
+abbrev pub WritesBack : Result Board Refusal → List ℕ → Type 0
+WritesBack (Ok b) s = bytes_of b ≡ s
+WritesBack (Err x) s = Unit

@@ -1,15 +1,10 @@
 // Reading a description: its shape, and what bytes of that shape say.
 ghost use Rattle.std.specs.Prelude.{◌≡◌, ◌+◌, ◌*◌, ◌<◌, ◌≤◌, length};
 ghost use Rattle.bitfield.specs.Bits.{widest, value_at};
-ghost use Rattle.board.specs.Description.{most_components, uuid_bytes, blank, blank_board};
-ghost use Rattle.board.specs.Packed.{start_of, length_of, component_length, components_in, uuid_at, component_at, components_at, board_at, reserved_clear, shape_of, accepted, unread, settle, ruled_as};
+ghost use Rattle.board.specs.Description.{most_components, blank};
+ghost use Rattle.board.specs.Packed.{length_of, component_length, components_in, component_at, components_at, board_at, reserved_clear, shape_of};
 
-use crate::{
-    Board, Component, EACH, HEAD, MOST_COMPONENTS, ReadBoard, Refusal, Ruling, UUID_BYTES, Verdict,
-};
-
-// The bits of a UUID.
-const UUID_BITS: usize = 128;
+use crate::{Board, Component, EACH, HEAD, MOST_COMPONENTS, Refusal, UUID_BYTES};
 
 // Where the head's fields start, past the count of components.
 const CPUS_AT: usize = 5;
@@ -20,16 +15,16 @@ const FIRST_AT: usize = 16;
 
 const LAST_AT: usize = 80;
 
-// Where a component's fields start, past its UUID.
-const CAPABLE_AT: usize = 0;
+// Where the fields of a component's bytes start, past its UUID.
+const CAPABLE_AT: usize = 128;
 
-const MAY_RESET_AT: usize = 1;
+const MAY_RESET_AT: usize = 129;
 
-const OPTIONAL_AT: usize = 2;
+const OPTIONAL_AT: usize = 130;
 
-const ZEROS_AT: usize = 3;
+const ZEROS_AT: usize = 131;
 
-const SVN_AT: usize = 8;
+const SVN_AT: usize = 136;
 
 // A field that lies in s.
 fn field(s: &[u8], at: usize, width: usize) -> u64
@@ -39,15 +34,8 @@ fn field(s: &[u8], at: usize, width: usize) -> u64
     bitfield::value(s, at, width)
 }
 
-// The first bit of component i.
-fn start(i: usize) -> usize
-    requires { i < most_components }
-    ensures { result ≡ start_of i }
-{
-    8 * (HEAD + EACH * i)
-}
-
 // How many components a description of at least two bytes has.
+#[tactic(auto, using(crate::proofs::Lists::widths_hold))]
 fn components_in(s: &[u8]) -> usize
     requires { 2 ≤ length s.now }
     ensures { result ≡ components_in s.now }
@@ -55,77 +43,49 @@ fn components_in(s: &[u8]) -> usize
     field(s, 0, 5) as usize + 1
 }
 
+#[tactic(auto, unfolding(crate::specs::Packed::reserved_clear))]
 fn is_reserved_clear(s: &[u8], n: usize) -> bool
-    requires { (n ≤ most_components) × (length_of n ≤ length s.now) }
+    requires { length_of n ≤ length s.now }
     ensures { result ≡ reserved_clear s.now n }
 {
-    if field(s, ZERO_AT, 5) != 0 {
-        return false;
-    }
-    let mut i: usize = 0;
-    while i < n {
-        if field(s, start(i) + UUID_BITS + ZEROS_AT, 5) != 0 {
-            return false;
-        }
-        i += 1;
-    }
-    true
+    field(s, ZERO_AT, 5) == 0 && (0..n).all(|i| field(&s[HEAD + EACH * i..], ZEROS_AT, 5) == 0)
 }
 
 // Whether the bytes have the shape of a description.
-pub(crate) fn shape(s: &[u8]) -> Verdict
+#[tactic(auto, unfolding(crate::specs::Packed::shape_of), using(crate::proofs::Laws::components_most))]
+pub(crate) fn shape(s: &[u8]) -> Result<(), Refusal>
     ensures { result ≡ shape_of s.now }
 {
     if s.len() < 2 {
-        return Verdict::Refused(Refusal::TooShort);
+        return Err(Refusal::TooShort);
     }
     let n = components_in(s);
     let whole = HEAD + EACH * n;
     if s.len() < whole {
-        return Verdict::Refused(Refusal::TooShort);
-    }
-    if s.len() > whole {
-        return Verdict::Refused(Refusal::TooLong);
-    }
-    if is_reserved_clear(s, n) {
-        Verdict::Accepted
+        Err(Refusal::TooShort)
+    } else if s.len() > whole {
+        Err(Refusal::TooLong)
+    } else if is_reserved_clear(s, n) {
+        Ok(())
     } else {
-        Verdict::Refused(Refusal::ReservedBit)
+        Err(Refusal::ReservedBit)
     }
 }
 
-fn byte_at(s: &[u8], at: usize) -> u8
-    requires { at + 8 ≤ 8 * length s.now }
-    ensures { result ≡ value_at s.now at 8 }
+// The component at the start of these bytes.
+#[tactic(auto, unfolding(crate::specs::Packed::component_at), using(crate::proofs::Lists::widths_hold, crate::proofs::Lists::uuid_front))]
+fn component_at(s: &[u8]) -> Component
+    requires { component_length ≤ length s.now }
+    ensures { result ≡ component_at s.now 0 }
 {
-    (field(s, at, 8) % 256) as u8
-}
-
-fn uuid_at(s: &[u8], at: usize) -> [u8; UUID_BYTES]
-    requires { (at < start_of most_components) × (at + 8 * uuid_bytes ≤ 8 * length s.now) }
-    ensures { result ≡ uuid_at s.now at }
-{
-    let mut uuid = [0u8; UUID_BYTES];
-    let mut j: usize = 0;
-    while j < UUID_BYTES {
-        uuid[j] = byte_at(s, at + 8 * j);
-        j += 1;
-    }
-    uuid
-}
-
-// The component that starts at bit at.
-fn component_at(s: &[u8], at: usize) -> Component
-    requires { (at < start_of most_components) × (at + 8 * component_length ≤ 8 * length s.now) }
-    ensures { result ≡ component_at s.now at }
-{
-    let tail = at + UUID_BITS;
+    let mut uuid = [0; UUID_BYTES];
+    uuid.copy_from_slice(&s[..UUID_BYTES]);
     Component {
-        uuid: uuid_at(s, at),
-        capable: field(s, tail + CAPABLE_AT, 1) == 1,
-        may_reset: field(s, tail + MAY_RESET_AT, 1) == 1,
-        optional: field(s, tail + OPTIONAL_AT, 1) == 1,
-        svn: (field(s, tail + SVN_AT, 32) % 0x1_0000_0000) as u32,
+        uuid,
+        capable: field(s, CAPABLE_AT, 1) == 1,
+        may_reset: field(s, MAY_RESET_AT, 1) == 1,
+        optional: field(s, OPTIONAL_AT, 1) == 1,
+        svn: field(s, SVN_AT, 32) as u32,
     }
 }
 
@@ -146,15 +106,14 @@ fn components_at(s: &[u8], n: usize) -> [Component; MOST_COMPONENTS]
     ensures { result ≡ components_at s.now n }
 {
     let mut all = [blank_component(); MOST_COMPONENTS];
-    let mut i: usize = 0;
-    while i < n {
-        all[i] = component_at(s, start(i));
-        i += 1;
+    for i in 0..n {
+        all[i] = component_at(&s[HEAD + EACH * i..]);
     }
     all
 }
 
 // What bytes of the right shape describe.
+#[tactic(auto, unfolding(crate::specs::Packed::board_at), using(crate::proofs::Lists::widths_hold, crate::proofs::Laws::components_most))]
 pub(crate) fn board_at(s: &[u8]) -> Board
     requires { length_of (components_in s.now) ≤ length s.now }
     ensures { result ≡ board_at s.now }
@@ -166,40 +125,5 @@ pub(crate) fn board_at(s: &[u8]) -> Board
         first: field(s, FIRST_AT, 64),
         last: field(s, LAST_AT, 64),
         component: components_at(s, n),
-    }
-}
-
-fn blank_board() -> Board
-    ensures { result ≡ blank_board }
-{
-    Board {
-        components: 0,
-        cpus: 0,
-        first: 0,
-        last: 0,
-        component: [blank_component(); MOST_COMPONENTS],
-    }
-}
-
-// A refusal, and nothing else.
-pub(crate) fn refused(x: Refusal) -> ReadBoard
-    ensures { result ≡ unread x }
-{
-    ReadBoard {
-        verdict: Verdict::Refused(x),
-        board: blank_board(),
-    }
-}
-
-// A description that was judged.
-pub(crate) fn settled(v: Ruling, b: Board) -> ReadBoard
-    ensures { result ≡ settle (ruled_as v) (accepted b) }
-{
-    match v {
-        Ruling::Kept => ReadBoard {
-            verdict: Verdict::Accepted,
-            board: b,
-        },
-        Ruling::Broken(x) => refused(x),
     }
 }

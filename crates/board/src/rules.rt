@@ -1,196 +1,114 @@
 // The rules that a description itself must keep: its counts, its range, its flags and its UUIDs.
-ghost use Rattle.std.specs.Prelude.{◌≡◌, ◌<◌, ◌≤◌};
-ghost use Rattle.board.specs.Description.{most_components, within_limit, counts_of, parted_of, unseen, apart, distinct, same_uuid, judged_of, is_blank, blank_past};
+ghost use Rattle.std.specs.Prelude.{◌≡◌, ◌≤◌, not, length};
+ghost use Rattle.std.specs.List.{list_all};
+ghost use Rattle.basics.specs.Every.{all_below};
+ghost use Rattle.board.specs.Description.{most_components, within_limit, counts_of, parted_of, unseen, same_uuid, judged_of, is_blank};
 ghost use Rattle.board.specs.Packed.{writable_of, is_writable};
 ghost use Rattle.board.specs.Marks.{mark_of};
 
-use crate::{Board, Component, MOST_COMPONENTS, MOST_CPUS, Refusal, Ruling, UUID_BYTES};
+use crate::{Board, Component, MOST_COMPONENTS, MOST_CPUS, Refusal, UUID_BYTES};
 
 // How many marks there are.
 const MARKS: usize = 1024;
 
-fn same_uuid(u: [u8; UUID_BYTES], v: [u8; UUID_BYTES]) -> bool
-    ensures { result ≡ same_uuid u v }
+#[tactic(auto, using(crate::proofs::Lists::same_bytes))]
+fn same_uuid(u: &[u8; UUID_BYTES], v: &[u8; UUID_BYTES]) -> bool
+    ensures { result ≡ same_uuid u.now v.now }
 {
-    let mut k: usize = 0;
-    while k < UUID_BYTES {
-        if u[k] != v[k] {
-            return false;
-        }
-        k += 1;
-    }
-    true
+    u == v
 }
 
-// No component before place i has its UUID.
-fn is_unseen(b: Board, i: usize) -> bool
-    requires { i < most_components }
-    ensures { result ≡ unseen b.component i }
+// None of these components has the UUID.
+fn is_unseen(before: &[Component], uuid: &[u8; UUID_BYTES]) -> bool
+    ensures { result ≡ list_all (λ c. not (same_uuid c.uuid uuid.now)) before.now }
 {
-    let c = b.component[i];
-    let mine = c.uuid;
-    let mut j: usize = 0;
-    while j < i {
-        let d = b.component[j];
-        let other = d.uuid;
-        if same_uuid(other, mine) {
-            return false;
-        }
-        j += 1;
-    }
-    true
+    before.iter().all(|c| !same_uuid(&c.uuid, uuid))
 }
 
 // A mark of a UUID: the same UUID has the same mark, so only those whose mark was met are compared.
-fn mark(uuid: [u8; UUID_BYTES]) -> usize
-    ensures { result ≡ mark_of uuid }
+fn mark(uuid: &[u8; UUID_BYTES]) -> usize
+    ensures { result ≡ mark_of uuid.now }
 {
-    let mut m: usize = 0;
-    let mut k: usize = 0;
-    while k < UUID_BYTES {
-        m += uuid[k] as usize;
-        k += 1;
-    }
-    m % MARKS
+    let sum: usize = uuid.iter().map(|b| usize::from(*b)).sum();
+    sum % MARKS
 }
 
-fn is_distinct(b: Board) -> bool
-    requires { b.components ≤ most_components }
-    ensures { result ≡ distinct b }
+fn is_distinct(components: &[Component]) -> bool
+    ensures { result ≡ all_below (length components.now) (unseen components.now) }
 {
-    let n = b.components as usize;
     let mut met = [false; MARKS];
-    let mut i: usize = 0;
-    while i < n {
-        let c = b.component[i];
-        let uuid = c.uuid;
-        let m = mark(uuid);
-        if met[m] {
-            if is_unseen(b, i) {
-                i += 1;
-            } else {
-                return false;
-            }
-        } else {
-            met[m] = true;
-            i += 1;
-        }
-    }
-    true
-}
-
-// The component is not both optional and may_reset.
-fn is_parted(c: Component) -> bool
-    ensures { result ≡ parted_of c }
-{
-    if c.optional { !c.may_reset } else { true }
-}
-
-fn is_apart(b: Board) -> bool
-    requires { b.components ≤ most_components }
-    ensures { result ≡ apart b }
-{
-    let n = b.components as usize;
-    let mut i: usize = 0;
-    while i < n {
-        if is_parted(b.component[i]) {
-            i += 1;
-        } else {
+    for (i, c) in components.iter().enumerate() {
+        let m = mark(&c.uuid);
+        if met[m] && !is_unseen(&components[..i], &c.uuid) {
             return false;
         }
+        met[m] = true;
     }
     true
 }
 
-pub(crate) fn judged(b: Board) -> Ruling
-    requires { b.components ≤ most_components }
-    ensures { result ≡ judged_of b }
+// No component is both optional and may_reset.
+fn is_apart(components: &[Component]) -> bool
+    ensures { result ≡ list_all parted_of components.now }
 {
+    components.iter().all(|c| !(c.optional && c.may_reset))
+}
+
+#[tactic(auto, unfolding(crate::specs::Description::judged_of), using(crate::proofs::Lists::apart_front, crate::proofs::Lists::distinct_front))]
+pub(crate) fn judged(b: &Board) -> Result<(), Refusal>
+    requires { b.now.components ≤ most_components }
+    ensures { result ≡ judged_of b.now }
+{
+    let components = &b.component[..b.components as usize];
     if b.first > b.last {
-        return Ruling::Broken(Refusal::FirstAboveLast);
-    }
-    if is_apart(b) {
-        if is_distinct(b) {
-            Ruling::Kept
-        } else {
-            Ruling::Broken(Refusal::UuidTwice)
-        }
+        Err(Refusal::FirstAboveLast)
+    } else if !is_apart(components) {
+        Err(Refusal::OptionalMayReset)
+    } else if !is_distinct(components) {
+        Err(Refusal::UuidTwice)
     } else {
-        Ruling::Broken(Refusal::OptionalMayReset)
+        Ok(())
     }
 }
 
+#[tactic(auto, unfolding(crate::specs::Description::within_limit))]
 fn within_limit(n: u64, most: u64) -> bool
     ensures { result ≡ within_limit n most }
 {
-    if n < 1 {
-        return false;
-    }
-    n <= most
+    1 <= n && n <= most
 }
 
-fn has_counts(b: Board) -> bool
-    ensures { result ≡ counts_of b }
+fn has_counts(b: &Board) -> bool
+    ensures { result ≡ counts_of b.now }
 {
-    if within_limit(b.components, MOST_COMPONENTS as u64) {
-        within_limit(b.cpus, MOST_CPUS as u64)
-    } else {
-        false
-    }
+    within_limit(b.components, MOST_COMPONENTS as u64) && within_limit(b.cpus, MOST_CPUS as u64)
 }
 
-pub(crate) fn writable(b: Board) -> Ruling
-    ensures { result ≡ writable_of b }
+#[tactic(auto, unfolding(crate::specs::Packed::writable_of), using(crate::proofs::Laws::counted_few))]
+pub(crate) fn writable(b: &Board) -> Result<(), Refusal>
+    ensures { result ≡ writable_of b.now }
 {
     if has_counts(b) {
         judged(b)
     } else {
-        Ruling::Broken(Refusal::CountOutside)
+        Err(Refusal::CountOutside)
     }
 }
 
-pub(crate) fn is_writable(b: Board) -> bool
-    ensures { result ≡ is_writable b }
+pub(crate) fn is_writable(b: &Board) -> bool
+    ensures { result ≡ is_writable b.now }
 {
-    match writable(b) {
-        Ruling::Kept => true,
-        Ruling::Broken(_) => false,
-    }
+    matches!(writable(b), Ok(()))
 }
 
-fn is_blank(c: Component) -> bool
-    ensures { result ≡ is_blank c }
+fn is_blank(c: &Component) -> bool
+    ensures { result ≡ is_blank c.now }
 {
-    let uuid = c.uuid;
-    if same_uuid(uuid, [0; UUID_BYTES]) {
-        if c.capable {
-            return false;
-        }
-        if c.may_reset {
-            return false;
-        }
-        if c.optional {
-            return false;
-        }
-        c.svn == 0
-    } else {
-        false
-    }
+    same_uuid(&c.uuid, &[0; UUID_BYTES]) && !c.capable && !c.may_reset && !c.optional && c.svn == 0
 }
 
-pub(crate) fn is_blank_past(b: Board) -> bool
-    requires { b.components ≤ most_components }
-    ensures { result ≡ blank_past b }
+pub(crate) fn are_blank(components: &[Component]) -> bool
+    ensures { result ≡ list_all is_blank components.now }
 {
-    let n = b.components as usize;
-    let past = MOST_COMPONENTS - n;
-    let mut j: usize = 0;
-    while j < past {
-        if is_blank(b.component[n + j]) {
-            j += 1;
-        } else {
-            return false;
-        }
-    }
-    true
+    components.iter().all(is_blank)
 }

@@ -1,12 +1,11 @@
 // Writing a description: its head, and its components one after another.
-ghost use Rattle.std.specs.Prelude.{◌≡◌, ◌+◌, ◌*◌, ◌≤◌, length};
+ghost use Rattle.std.specs.Prelude.{◌≡◌, ◌+◌, ◌*◌, ◌≤◌, length, Ok};
 ghost use Rattle.basics.specs.Places.{in_turn};
-ghost use Rattle.bitfield.specs.Bits.{widest_bytes, bytes, put};
+ghost use Rattle.bitfield.specs.Bits.{AreBytes, widest_bytes, bytes, put};
 ghost use Rattle.board.specs.Description.{most_components, uuid_bytes, Counted};
-ghost use Rattle.board.specs.declared.Ruling.TheVariants.{Kept};
 ghost use Rattle.board.specs.Packed.{flags_number, length_of, component_length, head_length, head_bytes, component_bytes, bytes_at, length_in, put_by, part_by, Typed, EachTyped, DescribedIf};
 
-use crate::{Board, Component, EACH, HEAD, Refusal, UUID_BYTES, Written, digit};
+use crate::{Board, Component, EACH, HEAD, Refusal, UUID_BYTES, digit};
 
 // The bytes at which the head's words start, past the counts.
 const FIRST_AT: usize = 2;
@@ -19,6 +18,7 @@ const FLAGS_AT: usize = 16;
 const SVN_AT: usize = 17;
 
 // Writes a number in n bytes that lie in the buffer.
+#[tactic(auto, using(crate::proofs::Lists::written_room))]
 fn put_number(buf: &mut [u8], k: usize, n: usize, v: u64)
     requires { (n ≤ widest_bytes) × (k + n ≤ length buf.old) }
     ensures { buf.new ≡ put buf.old k (bytes n v) }
@@ -26,39 +26,39 @@ fn put_number(buf: &mut [u8], k: usize, n: usize, v: u64)
     bitfield::write(buf, k, n, v);
 }
 
-fn put_uuid(buf: &mut [u8], k: usize, uuid: [u8; UUID_BYTES])
+// Writes a UUID, whose type says that it is bytes.
+#[tactic(auto, using(crate::proofs::Lists::put_over))]
+fn put_uuid(buf: &mut [u8], k: usize, uuid: &[u8; UUID_BYTES])
     requires { k + uuid_bytes ≤ length buf.old }
-    ensures { buf.new ≡ put buf.old k uuid }
+    ensures buf_after { buf.new ≡ put buf.old k uuid.now }
+    ensures are_bytes { AreBytes uuid.now }
 {
-    let mut j: usize = 0;
-    while j < UUID_BYTES {
-        buf[k + j] = uuid[j];
-        j += 1;
-    }
+    buf[k..k + UUID_BYTES].copy_from_slice(uuid);
 }
 
 // A component's flags, in the first three bits of a byte.
-fn flags(c: Component) -> u64
-    ensures { result ≡ flags_number c * 32 }
+fn flags(c: &Component) -> u64
+    ensures { result ≡ flags_number c.now * 32 }
 {
     (digit(c.capable) * 4 + digit(c.may_reset) * 2 + digit(c.optional)) * 32
 }
 
-fn put_component(buf: &mut [u8], k: usize, c: Component)
+fn put_component(buf: &mut [u8], k: usize, c: &Component)
     requires { k + component_length ≤ length buf.old }
-    ensures buf_after { buf.new ≡ put buf.old k (component_bytes c) }
-    ensures typed { Typed c }
+    ensures buf_after { buf.new ≡ put buf.old k (component_bytes c.now) }
+    ensures typed { Typed c.now }
 {
-    let uuid = c.uuid;
-    put_uuid(buf, k, uuid);
+    put_uuid(buf, k, &c.uuid);
     put_number(buf, k + FLAGS_AT, 1, flags(c));
-    put_number(buf, k + SVN_AT, 4, c.svn as u64);
+    // Read into a variable: the proof knows its range only so.
+    let svn = c.svn;
+    put_number(buf, k + SVN_AT, 4, u64::from(svn));
 }
 
-fn put_head(buf: &mut [u8], b: Board)
-    requires counted { Counted b }
+fn put_head(buf: &mut [u8], b: &Board)
+    requires counted { Counted b.now }
     requires room { head_length ≤ length buf.old }
-    ensures { buf.new ≡ put buf.old 0 (head_bytes b) }
+    ensures { buf.new ≡ put buf.old 0 (head_bytes b.now) }
 {
     let counts = (b.components - 1) * 64 + (b.cpus - 1);
     put_number(buf, 0, 2, counts * 32);
@@ -67,43 +67,41 @@ fn put_head(buf: &mut [u8], b: Board)
 }
 
 // The components within the count, one after another, past the head.
-fn put_components(buf: &mut [u8], b: Board)
-    requires few { b.components ≤ most_components }
-    requires room { length_of b.components ≤ length buf.old }
-    ensures buf_after { buf.new ≡ put buf.old head_length (in_turn b.components (bytes_at b)) }
-    ensures each_typed { EachTyped b b.components }
+fn put_components(buf: &mut [u8], b: &Board)
+    requires few { b.now.components ≤ most_components }
+    requires room { length_of b.now.components ≤ length buf.old }
+    ensures buf_after { buf.new ≡ put buf.old head_length (in_turn b.now.components (bytes_at b.now)) }
+    ensures each_typed { EachTyped b.now b.now.components }
 {
-    let n = b.components as usize;
-    let mut i: usize = 0;
-    while i < n {
-        let c = b.component[i];
+    let components = &b.component[..b.components as usize];
+    for (i, c) in components.iter().enumerate() {
         put_component(buf, HEAD + EACH * i, c);
-        i += 1;
     }
 }
 
 // A description that may be written, where there is room for it.
-pub(crate) fn put_writable(buf: &mut [u8], b: Board) -> Written
-    requires { Counted b }
-    ensures value { result ≡ put_by Kept (length buf.old) (length_of b.components) }
-    ensures buf_after { buf.new ≡ put buf.old 0 (part_by result b) }
-    ensures part_length { length_in result ≡ length (part_by result b) }
-    ensures described_if { DescribedIf result b }
+#[tactic(auto, using(crate::proofs::Laws::rooms))]
+pub(crate) fn put_writable(buf: &mut [u8], b: &Board) -> Result<usize, Refusal>
+    requires { Counted b.now }
+    ensures value { result ≡ put_by (Ok tt) (length buf.old) (length_of b.now.components) }
+    ensures buf_after { buf.new ≡ put buf.old 0 (part_by result b.now) }
+    ensures part_length { length_in result ≡ length (part_by result b.now) }
+    ensures described_if { DescribedIf result b.now }
 {
-    let n = HEAD + EACH * (b.components as usize);
+    let n = HEAD + EACH * b.components as usize;
     if buf.len() < n {
-        return Written::Nothing(Refusal::NoRoom);
+        return Err(Refusal::NoRoom);
     }
     put_head(buf, b);
     put_components(buf, b);
-    Written::Bytes(n)
+    Ok(n)
 }
 
-pub(crate) fn length_in(w: Written) -> usize
+pub(crate) fn length_in(w: Result<usize, Refusal>) -> usize
     ensures { result ≡ length_in w }
 {
     match w {
-        Written::Bytes(n) => n,
-        Written::Nothing(_) => 0,
+        Ok(n) => n,
+        Err(_) => 0,
     }
 }

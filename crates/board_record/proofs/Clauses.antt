@@ -1,5 +1,6 @@
 -- What a well-formed record tells, fact by fact, and how it is shown: the test is a conjunction of clauses, and all follows from them.
 -- Assumes nothing.
+use Rattle.std.specs.Prelude.{Some}
 use Prim.Native.Nat.{ℕ, ◌<◌}
 use mathlib.Core.Path.{◌≡◌, ap, ◌∙◌}
 use mathlib.Core.Bool.{true, false, not}
@@ -19,7 +20,6 @@ use Rattle.board_record.specs.Record.{subject_of, holding_of, is_pending}
 use Rattle.board_record.specs.WellFormed.{powered_stand, image_stands, images_stand, subject_stands, state_stands, held_by, held_stand, keepers_of, entry_stands, entries_stand, work_stands, rest_stands, well_formed}
 use Rattle.board_record.specs.declared.Record.{Record}
 use Rattle.board_record.specs.declared.State.{State}
-use Rattle.board_record.specs.declared.Subject.TheVariants.{Of}
 use Rattle.board_record.specs.declared.Holding.{Holding}
 use Rattle.board_record.specs.declared.Holding.TheVariants.{Nobody, One, Part, All}
 
@@ -105,7 +105,7 @@ module _ (r : Record) (w : WellFormed r) where
   held_none h = same-is r.held none_of (rw h at w.held)
 
   -- the state's component is pending, so it is one of the board's
-  pub subject-exists : Sized r → (c : ℕ) → subject_of r.state ≡ Of c → c < r.board.components
+  pub subject-exists : Sized r → (c : ℕ) → subject_of r.state ≡ Some c → c < r.board.components
   unfolding state_stands subject_stands images_stand image_stands
   subject-exists z c q =
       let pending : is_pending r.pending c ≡ true = and_left (is_pending r.pending c) _ (rw q at w.state) in

@@ -1,41 +1,39 @@
 -- The board's record (document 01, "The board and its record"): its states and how it starts. Assumes nothing.
-use Rattle.std.specs.Prelude.{ℕ, Bool, true, false, List, [], ◌∷◌, eqb, length, get_or, replicate}
+use Rattle.std.specs.Prelude.{ℕ, Bool, true, false, List, [], ◌∷◌, eqb, length, get_or, replicate, None, Option, Some}
 use Rattle.basics.specs.Every.{one_of}
 use Rattle.cpuset.specs.Set.{none_of, only_of}
 use Rattle.board.specs.Description.{most_components, most_cpus}
 use Rattle.board.specs.declared.Board.{Board}
 use Rattle.board_record.specs.declared.State.{State}
 use Rattle.board_record.specs.declared.State.TheVariants.{Idle, Preparing, HalfPrepared, Ready, Gathering, Together, Alone, HalfActivated, Dead, Withdrawn}
-use Rattle.board_record.specs.declared.Subject.{Subject}
-use Rattle.board_record.specs.declared.Subject.TheVariants.{Nothing, Of}
 use Rattle.board_record.specs.declared.Holding.{Holding}
 use Rattle.board_record.specs.declared.Holding.TheVariants.{Nobody, One, Part, All}
 use Rattle.board_record.specs.declared.Record.{Record}
 
 -- "the state with its component" (Board 3; withdrawn: request 3)
-abbrev pub subject_of : State → Subject
-subject_of Idle = Nothing
-subject_of (Preparing c) = Of c
-subject_of (HalfPrepared c) = Of c
-subject_of (Ready c) = Of c
-subject_of (Gathering c) = Of c
-subject_of (Together c) = Of c
-subject_of (Alone c) = Of c
-subject_of (HalfActivated c) = Of c
-subject_of Dead = Nothing
-subject_of (Withdrawn c) = Of c
+abbrev pub subject_of : State → Option ℕ
+subject_of Idle = None
+subject_of (Preparing c) = Some c
+subject_of (HalfPrepared c) = Some c
+subject_of (Ready c) = Some c
+subject_of (Gathering c) = Some c
+subject_of (Together c) = Some c
+subject_of (Alone c) = Some c
+subject_of (HalfActivated c) = Some c
+subject_of Dead = None
+subject_of (Withdrawn c) = Some c
 
 -- its number, 0 where there is none
-abbrev pub about_number : Subject → ℕ
-about_number Nothing = 0
-about_number (Of c) = c
+abbrev pub about_number : Option ℕ → ℕ
+about_number None = 0
+about_number (Some c) = c
 
 abbrev pub subject_number : State → ℕ
 subject_number s = about_number (subject_of s)
 
-abbrev pub is_about : Subject → ℕ → Bool
-is_about Nothing id = false
-is_about (Of c) id = eqb c id
+abbrev pub is_about : Option ℕ → ℕ → Bool
+is_about None id = false
+is_about (Some c) id = eqb c id
 
 -- the state's component is number id
 abbrev pub is_for : State → ℕ → Bool

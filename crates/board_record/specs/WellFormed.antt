@@ -1,5 +1,5 @@
 -- When a record is well formed (document 01, "The board and its record"), clause by clause. Assumes nothing.
-use Rattle.std.specs.Prelude.{ℕ, Bool, true, false, not, ◌&&◌, List, eqb, leb, get_or}
+use Rattle.std.specs.Prelude.{ℕ, Bool, true, false, not, ◌&&◌, List, eqb, leb, get_or, None, Option, Some}
 use Rattle.basics.specs.Choice.{pick}
 use Rattle.basics.specs.Every.{all_below}
 use Rattle.cpuset.specs.Set.{has_of, none_of, below_of, same_of, within_of, count_of}
@@ -10,8 +10,6 @@ use Rattle.board.specs.declared.Board.{Board}
 use Rattle.board.specs.declared.Component.{Component}
 use Rattle.board_record.specs.Record.{subject_of, holding_of, is_rendezvous, skips_rendezvous, is_pending, version_of}
 use Rattle.board_record.specs.declared.State.{State}
-use Rattle.board_record.specs.declared.Subject.{Subject}
-use Rattle.board_record.specs.declared.Subject.TheVariants as subject
 use Rattle.board_record.specs.declared.Holding.{Holding}
 use Rattle.board_record.specs.declared.Holding.TheVariants.{Nobody, One, Part, All}
 use Rattle.board_record.specs.declared.Record.{Record}
@@ -37,9 +35,9 @@ images_stand b pending version = all_below most_components (image_at b pending v
 unfoldable pub subject_stands : Component → Bool → Bool → ℕ → Bool
 subject_stands c alone pending version = pending && (leb c.svn version && pick alone c.optional true)
 
-abbrev pub stands_by : Board → List Bool → List ℕ → Bool → Subject → Bool
-stands_by b pending version alone subject.Nothing = true
-stands_by b pending version alone (subject.Of c) =
+abbrev pub stands_by : Board → List Bool → List ℕ → Bool → Option ℕ → Bool
+stands_by b pending version alone None = true
+stands_by b pending version alone (Some c) =
     subject_stands (numbered_of b c) alone (is_pending pending c) (version_of version c)
 
 unfoldable pub state_stands : Board → List Bool → List ℕ → State → Bool
@@ -57,9 +55,9 @@ held_stand s on held = held_by (holding_of s) on held
 
 -- "the entries and context ids" (Board 3): whose are kept; in alone nobody's, since no component is both optional and
 -- may_reset
-abbrev pub may_reset_by : Board → Subject → Bool
-may_reset_by b subject.Nothing = false
-may_reset_by b (subject.Of c) = may_reset_at b c
+abbrev pub may_reset_by : Board → Option ℕ → Bool
+may_reset_by b None = false
+may_reset_by b (Some c) = may_reset_at b c
 
 abbrev pub keeps_entries : Board → State → Bool
 keeps_entries b s = is_rendezvous s && may_reset_by b (subject_of s)

@@ -47,13 +47,6 @@ pub const DEAD: usize = 8;
 
 pub const WITHDRAWN: usize = 9;
 
-// What a state is about: nothing, or a component.
-#[derive(Clone, Copy)]
-pub enum Subject {
-    Nothing,
-    Of(u64),
-}
-
 // How many of the powered CPUs are held.
 #[derive(Clone, Copy)]
 pub enum Holding {
@@ -79,6 +72,7 @@ pub struct Record {
 }
 
 // The record of a board that was just switched on.
+#[tactic(auto, unfolding(crate::specs::Record::fresh_of))]
 pub fn fresh(b: Board) -> Record
     ensures { result ≡ fresh_of b }
 {
@@ -96,20 +90,19 @@ pub fn fresh(b: Board) -> Record
 }
 
 // The component that a state is about.
-pub fn subject_of(s: State) -> Subject
+pub fn subject_of(s: State) -> Option<u64>
     ensures { result ≡ subject_of s }
 {
     match s {
-        State::Idle => Subject::Nothing,
-        State::Preparing(c) => Subject::Of(c),
-        State::HalfPrepared(c) => Subject::Of(c),
-        State::Ready(c) => Subject::Of(c),
-        State::Gathering(c) => Subject::Of(c),
-        State::Together(c) => Subject::Of(c),
-        State::Alone(c) => Subject::Of(c),
-        State::HalfActivated(c) => Subject::Of(c),
-        State::Dead => Subject::Nothing,
-        State::Withdrawn(c) => Subject::Of(c),
+        State::Idle | State::Dead => None,
+        State::Preparing(c)
+        | State::HalfPrepared(c)
+        | State::Ready(c)
+        | State::Gathering(c)
+        | State::Together(c)
+        | State::Alone(c)
+        | State::HalfActivated(c)
+        | State::Withdrawn(c) => Some(c),
     }
 }
 
@@ -118,8 +111,8 @@ pub fn subject_number(s: State) -> u64
     ensures { result ≡ subject_number s }
 {
     match subject_of(s) {
-        Subject::Nothing => 0,
-        Subject::Of(c) => c,
+        None => 0,
+        Some(c) => c,
     }
 }
 
@@ -128,16 +121,14 @@ fn holding_of(s: State) -> Holding
     ensures { result ≡ holding_of s }
 {
     match s {
-        State::Idle => Holding::Nobody,
-        State::Preparing(_) => Holding::One,
-        State::HalfPrepared(_) => Holding::Nobody,
-        State::Ready(_) => Holding::Nobody,
+        State::Idle
+        | State::HalfPrepared(_)
+        | State::Ready(_)
+        | State::HalfActivated(_)
+        | State::Dead => Holding::Nobody,
+        State::Preparing(_) | State::Alone(_) | State::Withdrawn(_) => Holding::One,
         State::Gathering(_) => Holding::Part,
         State::Together(_) => Holding::All,
-        State::Alone(_) => Holding::One,
-        State::HalfActivated(_) => Holding::Nobody,
-        State::Dead => Holding::Nobody,
-        State::Withdrawn(_) => Holding::One,
     }
 }
 
@@ -163,37 +154,28 @@ pub fn place_of(s: State) -> usize
 pub fn is_gathering(s: State) -> bool
     ensures { result ≡ is_gathering s }
 {
-    place_of(s) == GATHERING
+    matches!(s, State::Gathering(_))
 }
 
 // Whether CPUs are held for a rendezvous: some of the powered ones, or all.
 fn is_rendezvous(s: State) -> bool
     ensures { result ≡ is_rendezvous s }
 {
-    match holding_of(s) {
-        Holding::Nobody => false,
-        Holding::One => false,
-        Holding::Part => true,
-        Holding::All => true,
-    }
+    matches!(s, State::Gathering(_) | State::Together(_))
 }
 
 // Whether an activation without rendezvous is running.
 pub fn is_alone(s: State) -> bool
     ensures { result ≡ is_alone s }
 {
-    place_of(s) == ALONE
+    matches!(s, State::Alone(_))
 }
 
 // Whether an activation without rendezvous began: it is running, or half done.
 pub fn skips_rendezvous(s: State) -> bool
     ensures { result ≡ skips_rendezvous s }
 {
-    match place_of(s) {
-        ALONE => true,
-        HALF_ACTIVATED => true,
-        _ => false,
-    }
+    matches!(s, State::Alone(_) | State::HalfActivated(_))
 }
 
 // Whether a state is about component id.
@@ -201,8 +183,8 @@ pub fn is_for(s: State, id: u64) -> bool
     ensures { result ≡ is_for s id }
 {
     match subject_of(s) {
-        Subject::Nothing => false,
-        Subject::Of(c) => c == id,
+        None => false,
+        Some(c) => c == id,
     }
 }
 
@@ -210,32 +192,20 @@ pub fn is_for(s: State, id: u64) -> bool
 pub fn is_pending(pending: [bool; board::MOST_COMPONENTS], id: u64) -> bool
     ensures { result ≡ is_pending pending id }
 {
-    if id < board::MOST_COMPONENTS as u64 {
-        pending[id as usize]
-    } else {
-        false
-    }
+    pending.get(id as usize).copied().unwrap_or(false)
 }
 
 // The version of the pending image of component id, 0 where none is.
 pub fn version_of(version: [u32; board::MOST_COMPONENTS], id: u64) -> u32
     ensures { result ≡ version_of version id }
 {
-    if id < board::MOST_COMPONENTS as u64 {
-        version[id as usize]
-    } else {
-        0
-    }
+    version.get(id as usize).copied().unwrap_or(0)
 }
 
 // Whether a record is one that the agent's rules speak of.
+#[tactic(auto, unfolding(crate::specs::WellFormed::well_formed))]
 pub fn is_well_formed(rec: Record) -> bool
     ensures { result ≡ well_formed rec }
 {
-    let b = rec.board;
-    if board::is_well_formed(b) {
-        standing::is_rest_right(rec)
-    } else {
-        false
-    }
+    board::is_well_formed(rec.board) && standing::is_rest_right(rec)
 }

@@ -9,12 +9,13 @@ pub const ROOM: u64 = 64;
 
 // Number i is a member where bit i is set.
 #[repr(C)]
-#[derive(Clone, Copy)]
+#[derive(Clone, Copy, PartialEq)]
 pub struct CpuSet {
     pub bits: u64,
 }
 
 // The set with no member.
+#[tactic(auto, unfolding(crate::specs::Set::none_of))]
 pub fn none() -> CpuSet
     ensures { result ≡ none_of }
 {
@@ -25,11 +26,7 @@ pub fn none() -> CpuSet
 pub fn has(s: CpuSet, i: u64) -> bool
     ensures { result ≡ has_of s i }
 {
-    if i < ROOM {
-        (s.bits >> i) % 2 == 1
-    } else {
-        false
-    }
+    i < ROOM && (s.bits >> i) % 2 == 1
 }
 
 // The set of i alone; of nothing where there is no room for i.
@@ -58,6 +55,7 @@ pub fn without(s: CpuSet, i: u64) -> CpuSet
 }
 
 // The members of s, and those of t.
+#[tactic(auto, unfolding(crate::specs::Set::union_of))]
 pub fn union(s: CpuSet, t: CpuSet) -> CpuSet
     ensures { result ≡ union_of s t }
 {
@@ -67,19 +65,21 @@ pub fn union(s: CpuSet, t: CpuSet) -> CpuSet
 }
 
 // The members of s that are not in t.
+#[tactic(auto, unfolding(crate::specs::Set::less_of))]
 pub fn less(s: CpuSet, t: CpuSet) -> CpuSet
     ensures { result ≡ less_of s t }
 {
     CpuSet {
-        bits: s.bits ^ (s.bits & t.bits),
+        bits: s.bits & !t.bits,
     }
 }
 
 // Whether s and t have the same members.
+#[tactic(auto, unfolding(crate::specs::Set::same_of, basics::specs::Every::all_below))]
 pub fn same(s: CpuSet, t: CpuSet) -> bool
     ensures { result ≡ same_of s t }
 {
-    s.bits == t.bits
+    s == t
 }
 
 // Whether s has no member.
@@ -96,9 +96,7 @@ pub fn below(n: u64) -> CpuSet
     if n < ROOM {
         CpuSet { bits: (1 << n) - 1 }
     } else {
-        CpuSet {
-            bits: 0xffff_ffff_ffff_ffff,
-        }
+        CpuSet { bits: u64::MAX }
     }
 }
 
@@ -113,5 +111,5 @@ pub fn within(s: CpuSet, t: CpuSet) -> bool
 pub fn count(s: CpuSet) -> u64
     ensures { result ≡ count_of s }
 {
-    u64::count_ones(s.bits) as u64
+    u64::from(s.bits.count_ones())
 }

@@ -5,7 +5,6 @@ ghost use Rattle.std.specs.Prelude.{◌≡◌, length};
 ghost use Rattle.agent.specs.Step.{step_of, entries_of, contexts_of};
 ghost use Rattle.agent.specs.Numbers.{said_of, Answers};
 
-use agent::Outcome;
 use board_record::Record;
 use rules::Event;
 
@@ -14,7 +13,7 @@ pub fn step_in_place(
     e: Event,
     entries: &mut [u64],
     contexts: &mut [u64],
-) -> Outcome
+) -> Result<agent::Answer, rules::Refusal>
     ensures value { result ≡ (step_of rec.old e (length entries.old) (length contexts.old)).outcome }
     ensures rec_after { rec.new ≡ (step_of rec.old e (length entries.old) (length contexts.old)).rec }
     ensures entries_after { entries.new ≡ entries_of rec.old e entries.old contexts.old }

@@ -4,49 +4,33 @@
 mod logs;
 mod runs;
 
-use board::{Board, Component, Verdict, Written};
+use board::{Board, Component};
 use std::io;
 
-fn text(rt: &impl Print, s: &[u8]) -> io::Result<()> {
-    rt.write_all(s)
-}
-
-fn number(rt: &impl Print, n: u64) -> io::Result<()> {
-    rt.print(n)
-}
-
-fn byte(rt: &impl Print, b: u8) -> io::Result<()> {
-    print!(rt; "{b:02x}")
+// The first n bytes, or all where there are fewer.
+fn front<'a>(s: &'a [u8], n: usize) -> &'a [u8] {
+    s.get(..n).unwrap_or(s)
 }
 
 // Whether an address is a good entry in the range 0x1000 to 0x1FFF.
-fn entry(rt: &impl Print, name: &[u8], address: u64) -> io::Result<()> {
-    text(rt, b"entry ")?;
-    text(rt, name)?;
-    if board::good_entry(0x1000, 0x1FFF, address) {
-        text(rt, b": good\n")
-    } else {
-        text(rt, b": not good\n")
-    }
-}
-
 fn entries(rt: &impl Print) -> io::Result<()> {
-    entry(rt, b"0x1000", 0x1000)?;
-    entry(rt, b"0x1FFC", 0x1FFC)?;
-    entry(rt, b"0xFFC", 0xFFC)?;
-    entry(rt, b"0x1FFE", 0x1FFE)?;
-    entry(rt, b"0x2000", 0x2000)
+    for address in [0x1000, 0x1FFC, 0xFFC, 0x1FFE, 0x2000] {
+        let good = board::good_entry(0x1000, 0x1FFF, address);
+        let answer = if good { "good" } else { "not good" };
+        println!(rt; "entry {address:#X}: {answer}")?;
+    }
+    Ok(())
 }
 
 const COUNTING: [u8; board::UUID_BYTES] = [0, 1, 2, 3, 4, 5, 6, 7, 8, 9, 10, 11, 12, 13, 14, 15];
 
 fn component(uuid: [u8; board::UUID_BYTES], capable: bool, svn: u32) -> Component {
     Component {
-        uuid: uuid,
-        capable: capable,
+        uuid,
+        capable,
         may_reset: false,
         optional: false,
-        svn: svn,
+        svn,
     }
 }
 
@@ -64,54 +48,30 @@ fn sample() -> Board {
     }
 }
 
-// What the first n bytes of a buffer are read as.
-fn reading(rt: &impl Print, buf: &[u8; 60], n: usize) -> io::Result<()> {
-    let s = &buf[..];
-    if n > s.len() {
-        return Ok(());
+// What these bytes are read as.
+fn reading(rt: &impl Print, bytes: &[u8]) -> io::Result<()> {
+    let n = bytes.len();
+    match board::read_board(bytes) {
+        Ok(b) => println!(rt; "reading {n} bytes: CPUs {}", b.cpus),
+        Err(x) => println!(rt; "reading {n} bytes: refused {}", board::number(x)),
     }
-    text(rt, b"reading ")?;
-    number(rt, n as u64)?;
-    let read = board::read_board(&s[0..n]);
-    let verdict = read.verdict;
-    match verdict {
-        Verdict::Accepted => {
-            text(rt, b" bytes: CPUs ")?;
-            number(rt, read.board.cpus)?;
-        }
-        Verdict::Refused(x) => {
-            text(rt, b" bytes: refused ")?;
-            number(rt, board::number(x))?;
-        }
-    }
-    text(rt, b"\n")
 }
 
 fn writing(rt: &impl Print, buf: &mut [u8; 60]) -> io::Result<()> {
-    text(rt, b"writing a board: ")?;
+    print!(rt; "writing a board: ")?;
     match board::put_board(buf, sample()) {
-        Written::Bytes(n) => {
-            number(rt, n as u64)?;
-            text(rt, b" bytes, opens ")?;
-            byte(rt, buf[0])?;
-            text(rt, b" ")?;
-            byte(rt, buf[1])?;
-        }
-        Written::Nothing(x) => {
-            text(rt, b"refused ")?;
-            number(rt, board::number(x))?;
-        }
+        Ok(n) => println!(rt; "{n} bytes, opens {:02x} {:02x}", buf[0], buf[1]),
+        Err(x) => println!(rt; "refused {}", board::number(x)),
     }
-    text(rt, b"\n")
 }
 
 fn main(rt: HostRuntime) -> io::Result<()> {
     entries(&rt)?;
     let mut buf = [0u8; 60];
     writing(&rt, &mut buf)?;
-    reading(&rt, &buf, 60)?;
-    reading(&rt, &buf, 59)?;
-    reading(&rt, &buf, 1)?;
+    for n in [60, 59, 1] {
+        reading(&rt, front(&buf, n))?;
+    }
     runs::all(&rt)?;
     logs::all(&rt)
 }

@@ -1,64 +1,44 @@
 // The bench examples of the agent, each on a fresh board.
-use crate::{number, text};
-use agent::{Caller, Outcome};
+use agent::Caller;
 use board_record::Record;
 use codes::Call;
 use rules::{Event, Image, Registers, Report};
-use std::io;
+use std::{fmt, io};
 
 // Where a CPU may resume.
 const ENTRY: u64 = 0x1000;
 
-// A status as a signed number.
-fn status(rt: &impl Print, x: u64) -> io::Result<()> {
-    if x < 0x8000_0000_0000_0000 {
-        number(rt, x)
-    } else {
-        text(rt, b"-")?;
-        number(rt, 0xffff_ffff_ffff_ffff - x + 1)
-    }
-}
+// What an event is answered, in words: a status as a signed number, the other registers in hex digits with all their zeros.
+#[derive(Clone, Copy)]
+struct Answer(Result<agent::Answer, rules::Refusal>);
 
-// A register in hex digits, with all its zeros.
-fn word(rt: &impl Print, x: u64) -> io::Result<()> {
-    print!(rt; "{x:016x}")
-}
-
-fn returned(rt: &impl Print, x: Registers) -> io::Result<()> {
-    text(rt, b"returned ")?;
-    status(rt, x.x0)?;
-    if x.x3 > 0 {
-        text(rt, b", X1 = ")?;
-        word(rt, x.x1)?;
-        text(rt, b", X2 = ")?;
-        word(rt, x.x2)?;
-        text(rt, b", X3 = ")?;
-        number(rt, x.x3)?;
-    }
-    Ok(())
-}
-
-fn caller(rt: &impl Print, c: Caller) -> io::Result<()> {
-    match c {
-        Caller::Nothing => text(rt, b"accepted"),
-        Caller::Returned(x) => returned(rt, x),
-        Caller::Held => text(rt, b"held"),
-        Caller::PrimeStarted => text(rt, b"prime started"),
-        Caller::ActivationStarted => text(rt, b"activation started"),
-        Caller::Gone => text(rt, b"gone"),
-    }
-}
-
-fn outcome(rt: &impl Print, o: Outcome) -> io::Result<()> {
-    match o {
-        Outcome::Refused(x) => {
-            text(rt, b"refused ")?;
-            number(rt, rules::number(x))
+impl fmt::Display for Answer {
+    fn fmt<W: fmt::Write>(&self, f: &mut fmt::Formatter<W>) -> fmt::Result {
+        match self.0 {
+            Err(x) => write!(f, "refused {}", rules::number(x)),
+            Ok(a) => match a.caller {
+                Caller::Nothing => f.write_str("accepted"),
+                Caller::Returned(x) => write!(f, "{}", Returned(x)),
+                Caller::Held => f.write_str("held"),
+                Caller::PrimeStarted => f.write_str("prime started"),
+                Caller::ActivationStarted => f.write_str("activation started"),
+                Caller::Gone => f.write_str("gone"),
+            },
         }
-        Outcome::Accepted(a) => {
-            let c = a.caller;
-            caller(rt, c)
+    }
+}
+
+#[derive(Clone, Copy)]
+struct Returned(Registers);
+
+impl fmt::Display for Returned {
+    fn fmt<W: fmt::Write>(&self, f: &mut fmt::Formatter<W>) -> fmt::Result {
+        let x = self.0;
+        write!(f, "returned {}", x.x0.cast_signed())?;
+        if x.x3 > 0 {
+            write!(f, ", X1 = {:016x}, X2 = {:016x}, X3 = {}", x.x1, x.x2, x.x3)?;
         }
+        Ok(())
     }
 }
 
@@ -66,29 +46,24 @@ fn outcome(rt: &impl Print, o: Outcome) -> io::Result<()> {
 fn after(rec: Record, e: Event) -> Record {
     let mut entries = [0u64; 4];
     let mut contexts = [0u64; 4];
-    let s = agent::step(rec, e, &mut entries, &mut contexts);
-    s.rec
+    agent::step(rec, e, &mut entries, &mut contexts).rec
 }
 
 // What an event is answered.
-fn ask(rt: &impl Print, name: &[u8], rec: Record, e: Event) -> io::Result<()> {
+fn ask(rt: &impl Print, name: &str, rec: Record, e: Event) -> io::Result<()> {
     let mut entries = [0u64; 4];
     let mut contexts = [0u64; 4];
     let s = agent::step(rec, e, &mut entries, &mut contexts);
-    let o = s.outcome;
-    text(rt, name)?;
-    text(rt, b": ")?;
-    outcome(rt, o)?;
-    text(rt, b"\n")
+    println!(rt; "{name}: {}", Answer(s.outcome))
 }
 
 fn call(cpu: u64, function: u64, x1: u64, x2: u64, x3: u64) -> Event {
     Event::Call(Call {
-        cpu: cpu,
+        cpu,
         x0: function,
-        x1: x1,
-        x2: x2,
-        x3: x3,
+        x1,
+        x2,
+        x3,
         x4: 0,
     })
 }
@@ -96,7 +71,7 @@ fn call(cpu: u64, function: u64, x1: u64, x2: u64, x3: u64) -> Event {
 fn image(c: u64, version: u32) -> Event {
     Event::Image(Image {
         component: c,
-        version: version,
+        version,
     })
 }
 
@@ -116,10 +91,7 @@ fn activate(cpu: u64, c: u64) -> Event {
 }
 
 fn activated(c: u64, code: u64) -> Event {
-    Event::Activate(Report {
-        component: c,
-        code: code,
-    })
+    Event::Activate(Report { component: c, code })
 }
 
 fn fresh() -> Record {
@@ -139,43 +111,43 @@ fn ready(rec: Record, c: u64) -> Record {
 fn numbers(rt: &impl Print) -> io::Result<()> {
     ask(
         rt,
-        b"unknown number 0xC40002E7",
+        "unknown number 0xC40002E7",
         fresh(),
         call(0, 0xC400_02E7, 0, 0, 0),
     )?;
-    ask(rt, b"VERSION", fresh(), call(0, codes::VERSION, 0, 0, 0))?;
+    ask(rt, "VERSION", fresh(), call(0, codes::VERSION, 0, 0, 0))?;
     ask(
         rt,
-        b"FEATURES of 0x84000002",
+        "FEATURES of 0x84000002",
         fresh(),
         call(0, codes::FEATURES, codes::CPU_OFF, 0, 0),
     )
 }
 
-fn inventory(rt: &impl Print, name: &[u8], rec: Record, id: u64) -> io::Result<()> {
+fn inventory(rt: &impl Print, name: &str, rec: Record, id: u64) -> io::Result<()> {
     ask(rt, name, rec, call(0, codes::GET_INVENTORY, id, 0, 0))
 }
 
 fn inventories(rt: &impl Print) -> io::Result<()> {
     let informed = after(fresh(), call(0, codes::GET_INFO, 0, 0, 0));
-    inventory(rt, b"inventory of 0", informed, 0)?;
-    inventory(rt, b"inventory of 99 before GET_INFO", fresh(), 99)?;
-    inventory(rt, b"inventory of 99 after it", informed, 99)
+    inventory(rt, "inventory of 0", informed, 0)?;
+    inventory(rt, "inventory of 99 before GET_INFO", fresh(), 99)?;
+    inventory(rt, "inventory of 99 after it", informed, 99)
 }
 
-fn primes(rt: &impl Print, name: &[u8], version: u32) -> io::Result<()> {
+fn primes(rt: &impl Print, name: &str, version: u32) -> io::Result<()> {
     ask(rt, name, after(fresh(), image(1, version)), prime(0, 1))
 }
 
-fn cancels(rt: &impl Print, name: &[u8], rec: Record) -> io::Result<()> {
+fn cancels(rt: &impl Print, name: &str, rec: Record) -> io::Result<()> {
     ask(rt, name, rec, call(0, codes::CANCEL, 99, 0, 0))
 }
 
 fn one_cpu(rt: &impl Print, rec: Record) -> io::Result<()> {
-    ask(rt, b"one CPU on, its ACTIVATE", rec, activate(0, 0))?;
+    ask(rt, "one CPU on, its ACTIVATE", rec, activate(0, 0))?;
     ask(
         rt,
-        b"code 1 in together",
+        "code 1 in together",
         after(rec, activate(0, 0)),
         activated(0, 1),
     )
@@ -184,24 +156,24 @@ fn one_cpu(rt: &impl Print, rec: Record) -> io::Result<()> {
 fn gathering(rt: &impl Print, rec: Record) -> io::Result<()> {
     ask(
         rt,
-        b"CPU_ON of 3 in gathering",
+        "CPU_ON of 3 in gathering",
         rec,
         call(2, codes::CPU_ON, 3, ENTRY, 0),
     )?;
-    ask(rt, b"the second ACTIVATE", rec, activate(2, 0))
+    ask(rt, "the second ACTIVATE", rec, activate(2, 0))
 }
 
 fn postponed(rt: &impl Print, together: Record) -> io::Result<()> {
     ask(
         rt,
-        b"postponed, then one of the two",
+        "postponed, then one of the two",
         after(together, activated(0, 2)),
         activate(0, 0),
     )
 }
 
 fn two_cpus(rt: &impl Print, rec: Record) -> io::Result<()> {
-    ask(rt, b"two CPUs on, the first ACTIVATE", rec, activate(0, 0))?;
+    ask(rt, "two CPUs on, the first ACTIVATE", rec, activate(0, 0))?;
     let gathered = after(rec, activate(0, 0));
     gathering(rt, gathered)?;
     postponed(rt, after(gathered, activate(2, 0)))
@@ -210,10 +182,10 @@ fn two_cpus(rt: &impl Print, rec: Record) -> io::Result<()> {
 pub(crate) fn all(rt: &impl Print) -> io::Result<()> {
     numbers(rt)?;
     inventories(rt)?;
-    primes(rt, b"PRIME of version 4, SVN 5", 4)?;
-    primes(rt, b"PRIME of version 5, SVN 5", 5)?;
-    cancels(rt, b"CANCEL of 99 in idle", fresh())?;
-    cancels(rt, b"CANCEL of 99 in ready for 1", ready(fresh(), 1))?;
+    primes(rt, "PRIME of version 4, SVN 5", 4)?;
+    primes(rt, "PRIME of version 5, SVN 5", 5)?;
+    cancels(rt, "CANCEL of 99 in idle", fresh())?;
+    cancels(rt, "CANCEL of 99 in ready for 1", ready(fresh(), 1))?;
     one_cpu(rt, ready(fresh(), 0))?;
     two_cpus(rt, ready(two_on(), 0))
 }

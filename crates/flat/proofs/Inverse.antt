@@ -1,11 +1,11 @@
 -- Records as numbers and back, each way undoing the other on what is well formed: flags by cases, states along their order, tables at
 -- each place. Assumes nothing.
-use Prim.Native.Nat.{ℕ, ◌<◌, ◌≤◌}
-use mathlib.Core.Path.{◌≡◌, refl, sym, ap, ◌∙◌}
+use Prim.Native.Nat.{ℕ, ◌<◌}
+use mathlib.Core.Path.{◌≡◌, refl, ap, ◌∙◌}
 use mathlib.Core.Bool.{Bool, true, false, ◌&&◌}
 use mathlib.Core.List.{List}
 use lib.Dec.{eqb, ltb}
-use lib.ListN.{length, get_or, get_or-eq_default}
+use lib.ListN.{length, get_or}
 use borrow.Author.Tests.{eq-eqb, eqb-true, leb-true, ltb-true, le-leb, lt-ltb}
 use native.Mathlib.Omega.{arith}
 use Rattle.basics.specs.Choice.{both, and_left, and_right}
@@ -16,10 +16,9 @@ use Rattle.board.specs.Packed.{digit_of, flag_in}
 use Rattle.board.specs.declared.Board.{Board}
 use Rattle.board.specs.declared.Component.{Component}
 use Rattle.board.proofs.Laws.{digit-fits, flag-digit, digit-flag}
-use Rattle.board_record.specs.Record.{place_of, in_order, state_count, subject_number}
+use Rattle.board_record.specs.Record.{place_of, state_count, subject_number}
 use Rattle.board_record.specs.declared.Record.{Record}
 use Rattle.board_record.specs.declared.State.{State}
-use Rattle.board_record.specs.declared.State.TheVariants.{Dead}
 use Rattle.board_record.proofs.Clauses.{Sized}
 use Rattle.board_record.proofs.States.{every-state, place-below}
 use Rattle.flat.specs.Records.{is_flag, flat_flags, are_flags, state_in, is_state, flat_component, component_in, is_flat_component, absent_flat, flat_components, components_in, are_flat_components, flat_board, board_in, flat_with, flat_of, record_in, is_flat}
@@ -45,10 +44,6 @@ flag-there n e = digit-flag n (omega (arith, leb-true n 1 e))
 -- ---- states
 pub state-back : (s : State) → state_in (place_of s) (subject_number s) ≡ s
 state-back = every-state (λ s. state_in (place_of s) (subject_number s)) (λ s. s) (λ c. refl)
-
--- past the last place there is none
-pub past-order : (n c : ℕ) → state_count ≤ n → Dead ≡ state_in n c
-past-order n c h = sym (get_or-eq_default (in_order c) Dead {n = n} h)
 
 state-is : (s : State) → is_state (place_of s) (subject_number s) ≡ true
 state-is s = rw (lt-ltb (place_of s) state_count (place-below s), state-back s, eq-eqb (subject_number s) _ refl)

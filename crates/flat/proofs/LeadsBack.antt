@@ -1,5 +1,6 @@
 -- Readers as numbers and back: every reader comes back from its numbers, and numbers that are a reader's are those of the one that they
 -- make. So the functions over numbers go as those over readers, and where a reader stays its numbers do. Assumes nothing.
+use Rattle.std.specs.Prelude.{Err, None, Ok, Option, Result, Some}
 use Prim.Native.Nat.{ℕ}
 use mathlib.Core.Path.{◌≡◌, refl, sym, ap, ◌∙◌}
 use mathlib.Core.Bool.{Bool, true, false}
@@ -17,15 +18,12 @@ use Rattle.deliveries.specs.declared.Standing.{Standing}
 use Rattle.deliveries.specs.declared.Standing.TheVariants.{Open, Closed, Refused}
 use Rattle.deliveries.specs.declared.Refusal.{Refusal}
 use Rattle.deliveries.specs.declared.Refusal.TheVariants.{NoReader, AfterClose, Log}
-use Rattle.deliveries.specs.declared.Given.{Given}
-use Rattle.deliveries.specs.declared.Given.TheVariants as given
-use Rattle.deliveries.specs.declared.Ending.{Ending}
-use Rattle.deliveries.specs.declared.Ending.TheVariants as ending
 use Rattle.deliveries.specs.declared.Lead.{Lead}
 use Rattle.deliveries.proofs.Laws.{picked, lead-stands}
 use Rattle.deliveries.proofs.Again.{never-37}
 use Rattle.flat.specs.Leads.{standing_number, standing_refusal, standing_place, flat_lead, refusal_in, nobodys, standing_in, lead_in, lead_after, lead_given, lead_ended, taken_by, closed_by, taken_in, closed_in}
 use Rattle.flat.specs.declared.FlatLead.{FlatLead}
+use Rattle.log_record.specs.declared.LogRecord.{LogRecord}
 
 -- ---- every reader comes back
 
@@ -104,14 +102,14 @@ after-known NoReader f l k = absurd (k refl)
 after-known AfterClose f l k = refl
 after-known (Log x) f l k = refl
 
-given-known : (g : Given) (f : FlatLead) (l : Lead) → (g ≡ given.Refused NoReader → ⊥) → lead_given g f l ≡ flat_lead l
-given-known given.Nothing f l k = refl
-given-known (given.Record r) f l k = refl
-given-known (given.Refused x) f l k = after-known x f l (λ e. k (ap given.Refused e))
+given-known : (g : Result (Option LogRecord) Refusal) (f : FlatLead) (l : Lead) → (g ≡ Err NoReader → ⊥) → lead_given g f l ≡ flat_lead l
+given-known (Ok None) f l k = refl
+given-known (Ok (Some r)) f l k = refl
+given-known (Err x) f l k = after-known x f l (λ e. k (ap Err e))
 
-ended-known : (e : Ending) (f : FlatLead) (l : Lead) → (e ≡ ending.Refused NoReader → ⊥) → lead_ended e f l ≡ flat_lead l
-ended-known (ending.Records n) f l k = refl
-ended-known (ending.Refused x) f l k = after-known x f l (λ e. k (ap ending.Refused e))
+ended-known : (e : Result ℕ Refusal) (f : FlatLead) (l : Lead) → (e ≡ Err NoReader → ⊥) → lead_ended e f l ≡ flat_lead l
+ended-known (Ok n) f l k = refl
+ended-known (Err x) f l k = after-known x f l (λ e. k (ap Err e))
 
 module _ (f : FlatLead) where
   -- numbers that are a reader's become those of the reader after it

@@ -4,3 +4,4 @@ pub mod Pinned
 pub mod Sizes
 pub mod Through
 pub mod LeadsBack
+pub mod Lists

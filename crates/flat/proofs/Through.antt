@@ -1,5 +1,6 @@
 -- The step on numbers is the agent's step through the conversion, by the two tests that it makes; so the agent's theorems hold of it.
 -- An answer's numbers say all of it, by cases. Assumes nothing.
+use Rattle.std.specs.Prelude.{Err, None, Ok, Option, Result, Some}
 use Prim.Native.Nat.{ℕ}
 use mathlib.Core.Path.{◌≡◌, refl, sym, ap, ◌∙◌}
 use mathlib.Core.Bool.{Bool, true, false}
@@ -12,7 +13,7 @@ use Rattle.basics.specs.Choice.{pick, refuted, and_left, and_right}
 use Rattle.basics.proofs.Choice.{pick-cases}
 use Rattle.basics.specs.Places.{length-firsts}
 use Rattle.board.specs.Description.{most_components}
-use Rattle.board.specs.Packed.{flag_in, read_of, accepted}
+use Rattle.board.specs.Packed.{flag_in, read_of}
 use Rattle.board.proofs.Round.{read-stands, read-long}
 use Rattle.board.specs.declared.Board.{Board}
 use Rattle.board_record.specs.Record.{fresh_of}
@@ -31,8 +32,6 @@ use Rattle.agent.specs.Numbers.{outcome_of, returned_of, release_number, freed_b
 use Rattle.agent.specs.declared.Answer.{Answer}
 use Rattle.agent.specs.declared.Caller.{Caller}
 use Rattle.agent.specs.declared.Caller.TheVariants as caller
-use Rattle.agent.specs.declared.Outcome.{Outcome}
-use Rattle.agent.specs.declared.Outcome.TheVariants.{Refused, Accepted}
 use Rattle.agent.specs.declared.Release.{Release}
 use Rattle.agent.specs.declared.Release.TheVariants as release
 use Rattle.agent.specs.declared.Stepped.{Stepped}
@@ -49,8 +48,6 @@ use Rattle.flat.specs.declared.FlatBoard.{FlatBoard}
 use Rattle.flat.specs.declared.FlatEvent.{FlatEvent}
 use Rattle.flat.specs.declared.FlatRecord.{FlatRecord}
 use Rattle.flat.specs.declared.FlatStepped.{FlatStepped}
-use Rattle.trace.specs.declared.Read.{Read}
-use Rattle.trace.specs.declared.Read.TheVariants.{Known, Unknown}
 use Rattle.flat.proofs.Inverse.{SizedFlat, board-there, flat-is, record-back, flat-there}
 
 -- ---- answers: read back from their numbers, so that nothing is lost in them
@@ -84,10 +81,10 @@ refusal_in n =
     (pick (eqb n 8) StateComponent
     NotWellFormed)))))))
 
-abbrev pub outcome_in : FlatAnswer → Outcome
-outcome_in a = pick (eqb a.refusal 0) (Accepted (accepted_in a)) (Refused (refusal_in a.refusal))
+abbrev pub outcome_in : FlatAnswer → Result Answer Refusal
+outcome_in a = pick (eqb a.refusal 0) (Ok (accepted_in a)) (Err (refusal_in a.refusal))
 
-refused-back : (x : Refusal) → outcome_in (refused_answer (number_of x)) ≡ Refused x
+refused-back : (x : Refusal) → outcome_in (refused_answer (number_of x)) ≡ Err x
 unfolding answer_by refused_with
 refused-back NotWellFormed = refl
 refused-back TableShort = refl
@@ -99,13 +96,13 @@ refused-back CodeNotAllowed = refl
 refused-back NotCapable = refl
 refused-back StateComponent = refl
 
-accepted-whole : (a : Answer) → outcome_in (answer_by (accepted_with a)) ≡ Accepted a
+accepted-whole : (a : Answer) → outcome_in (answer_by (accepted_with a)) ≡ Ok a
 unfolding answer_by accepted_with
-accepted-whole a = ap Accepted (accepted-back a)
+accepted-whole a = ap Ok (accepted-back a)
 
-pub outcome-back : (o : Outcome) → outcome_in (answer_of o) ≡ o
-outcome-back (Refused x) = refused-back x
-outcome-back (Accepted a) = accepted-whole a
+pub outcome-back : (o : Result Answer Refusal) → outcome_in (answer_of o) ≡ o
+outcome-back (Err x) = refused-back x
+outcome-back (Ok a) = accepted-whole a
 
 -- an accepted answer has no refusal
 accepted-none : (a : Answer) → (answer_by (accepted_with a)).refusal ≡ 0
@@ -113,7 +110,7 @@ unfolding answer_by accepted_with
 accepted-none a = refl
 
 -- ---- one event
-module _ (f : FlatRecord) (flat : is_flat f ≡ true) (e : FlatEvent) (known : Event) (is : event_in e ≡ Known known) (n m : ℕ) where
+module _ (f : FlatRecord) (flat : is_flat f ≡ true) (e : FlatEvent) (known : Event) (is : event_in e ≡ Some known) (n m : ℕ) where
   abbrev own : Stepped
   own = agent.step_of (record_in f) known n m
 
@@ -137,14 +134,14 @@ module _ (f : FlatRecord) (flat : is_flat f ≡ true) (e : FlatEvent) (known : E
   answer-through = ap (λ (s : FlatStepped). s.answer) step_through
 
   -- and an accepted event's log record is the agent's
-  pub logged-through : (a : Answer) → own.outcome ≡ Accepted a → logged_in e (step_of f e n m).answer ≡ logged_of known a
+  pub logged-through : (a : Answer) → own.outcome ≡ Ok a → logged_in e (step_of f e n m).answer ≡ logged_of known a
   unfolding logged_in answer_by accepted_with
   logged-through a o =
       let said : (step_of f e n m).answer ≡ answer_by (accepted_with a) = answer-through ∙ ap answer_of o in
       rw (said, accepted-none a, is) (ap (logged_of known) (accepted-back a))
 
 -- the tables too
-module _ (f : FlatRecord) (flat : is_flat f ≡ true) (e : FlatEvent) (known : Event) (is : event_in e ≡ Known known) (entries contexts : List ℕ) where
+module _ (f : FlatRecord) (flat : is_flat f ≡ true) (e : FlatEvent) (known : Event) (is : event_in e ≡ Some known) (entries contexts : List ℕ) where
   pub entries-through : entries_of f e entries contexts ≡ agent.entries_of (record_in f) known entries contexts
   unfolding entries_of
   entries-through = rw (flat, is)
@@ -171,32 +168,32 @@ module _ (f : FlatRecord) (z : SizedFlat f) (e : FlatEvent) (entries contexts : 
   none_stays flat = (rw flat, rw flat, rw flat)
 
   module _ (flat : is_flat f ≡ true) where
-    unknown-stays : event_in e ≡ Unknown → Stays
+    unknown-stays : event_in e ≡ None → Stays
     unfolding step_of entries_of contexts_of kept_with
     unknown-stays is = (rw (flat, is), rw (flat, is), rw (flat, is))
 
-    known-stays : (known : Event) → event_in e ≡ Known known → (next.answer.refusal ≡ 0 → ⊥)
-        → (o : Outcome) → (agent.step_of (record_in f) known (length entries) (length contexts)).outcome ≡ o → Stays
-    known-stays known is h (Refused x) q =
+    known-stays : (known : Event) → event_in e ≡ Some known → (next.answer.refusal ≡ 0 → ⊥)
+        → (o : Result Answer Refusal) → (agent.step_of (record_in f) known (length entries) (length contexts)).outcome ≡ o → Stays
+    known-stays known is h (Err x) q =
         let stays = refused-stays (record_in f) known entries contexts x q in
         (record-through f flat e known is (length entries) (length contexts) z ∙ ap flat_of stays.0 ∙ flat-there f z flat, entries-through f flat e known is entries contexts ∙ stays.1, contexts-through f flat e known is entries contexts ∙ stays.2)
-    known-stays known is h (Accepted a) q =
+    known-stays known is h (Ok a) q =
         absurd (h (ap (λ (y : FlatAnswer). y.refusal) (answer-through f flat e known is (length entries) (length contexts) ∙ ap answer_of q) ∙ accepted-none a))
 
   pub flat-stays : (next.answer.refusal ≡ 0 → ⊥) → Stays
   flat-stays h = go (is_flat f) refl (event_in e) refl
     where
-      go : (b : Bool) → is_flat f ≡ b → (r : Read) → event_in e ≡ r → Stays
+      go : (b : Bool) → is_flat f ≡ b → (r : Option Event) → event_in e ≡ r → Stays
       go false flat r is = none_stays flat
-      go true flat Unknown is = unknown-stays flat is
-      go true flat (Known known) is = known-stays flat known is h (agent.step_of (record_in f) known (length entries) (length contexts)).outcome refl
+      go true flat None is = unknown-stays flat is
+      go true flat (Some known) is = known-stays flat known is h (agent.step_of (record_in f) known (length entries) (length contexts)).outcome refl
 
 -- ---- refusal 9 is for what is not well formed, and for nothing else
 nine-only : (x : Refusal) → (refused_answer (number_of x)).refusal ≡ 9 → x ≡ NotWellFormed
 unfolding answer_by refused_with
-nine-only x e = let same : Refused x ≡ Refused NotWellFormed = sym (refused-back x) ∙ ap (λ (n : ℕ). outcome_in (refused_answer n)) e in cc
+nine-only x e = let same : Err x ≡ Err NotWellFormed = sym (refused-back x) ∙ ap (λ (n : ℕ). outcome_in (refused_answer n)) e in cc
 
-ill-formed : (r : Record) (e : Event) (n m : ℕ) → well_formed r ≡ false → (agent.step_of r e n m).outcome ≡ Refused NotWellFormed
+ill-formed : (r : Record) (e : Event) (n m : ℕ) → well_formed r ≡ false → (agent.step_of r e n m).outcome ≡ Err NotWellFormed
 unfolding agent.step_of decide_of refused_of
 ill-formed r e n m w = rw w
 
@@ -205,7 +202,7 @@ unfolding step_of kept_with answer_by refused_with
 stands-aside f e n m flat = rw flat
 
 -- of an event that is none of the four
-module _ (f : FlatRecord) (flat : is_flat f ≡ true) (e : FlatEvent) (is : event_in e ≡ Unknown) (n m : ℕ) where
+module _ (f : FlatRecord) (flat : is_flat f ≡ true) (e : FlatEvent) (is : event_in e ≡ None) (n m : ℕ) where
   none-refusal : (step_of f e n m).answer.refusal ≡ no_event (record_in f) n m
   unfolding step_of kept_with answer_by refused_with
   none-refusal = rw (flat, is)
@@ -222,35 +219,35 @@ module _ (f : FlatRecord) (flat : is_flat f ≡ true) (e : FlatEvent) (is : even
       (rw w at (sym none-refusal ∙ h))
 
 -- and of one that is
-module _ (f : FlatRecord) (flat : is_flat f ≡ true) (e : FlatEvent) (known : Event) (is : event_in e ≡ Known known) (n m : ℕ) where
-  agents-refusal : (o : Outcome) → (agent.step_of (record_in f) known n m).outcome ≡ o → (step_of f e n m).answer.refusal ≡ (answer_of o).refusal
+module _ (f : FlatRecord) (flat : is_flat f ≡ true) (e : FlatEvent) (known : Event) (is : event_in e ≡ Some known) (n m : ℕ) where
+  agents-refusal : (o : Result Answer Refusal) → (agent.step_of (record_in f) known n m).outcome ≡ o → (step_of f e n m).answer.refusal ≡ (answer_of o).refusal
   agents-refusal o q = ap (λ (y : FlatAnswer). y.refusal) (answer-through f flat e known is n m ∙ ap answer_of q)
 
   known-given : well_formed (record_in f) ≡ false → (step_of f e n m).answer.refusal ≡ 9
   unfolding answer_by refused_with
-  known-given w = agents-refusal (Refused NotWellFormed) (ill-formed (record_in f) known n m w)
+  known-given w = agents-refusal (Err NotWellFormed) (ill-formed (record_in f) known n m w)
 
   known-when : well_formed (record_in f) ≡ true → (step_of f e n m).answer.refusal ≡ 9
-      → (o : Outcome) → (agent.step_of (record_in f) known n m).outcome ≡ o → ⊥
-  known-when w h (Refused x) q =
-      never-nine (record_in f) known n m w (q ∙ ap Refused (nine-only x (sym (agents-refusal (Refused x) q) ∙ h)))
-  known-when w h (Accepted a) q = let none = accepted-none a in let same = agents-refusal (Accepted a) q in omega arith
+      → (o : Result Answer Refusal) → (agent.step_of (record_in f) known n m).outcome ≡ o → ⊥
+  known-when w h (Err x) q =
+      never-nine (record_in f) known n m w (q ∙ ap Err (nine-only x (sym (agents-refusal (Err x) q) ∙ h)))
+  known-when w h (Ok a) q = let none = accepted-none a in let same = agents-refusal (Ok a) q in omega arith
 
 module _ (f : FlatRecord) (e : FlatEvent) (n m : ℕ) where
   pub nine-given : flat_stands f ≡ false → (step_of f e n m).answer.refusal ≡ 9
   nine-given h = go (is_flat f) refl (event_in e) refl
     where
-      go : (b : Bool) → is_flat f ≡ b → (r : Read) → event_in e ≡ r → (step_of f e n m).answer.refusal ≡ 9
+      go : (b : Bool) → is_flat f ≡ b → (r : Option Event) → event_in e ≡ r → (step_of f e n m).answer.refusal ≡ 9
       go false flat r is = stands-aside f e n m flat
-      go true flat Unknown is = none-given f flat e is n m (rw flat at h)
-      go true flat (Known known) is = known-given f flat e known is n m (rw flat at h)
+      go true flat None is = none-given f flat e is n m (rw flat at h)
+      go true flat (Some known) is = known-given f flat e known is n m (rw flat at h)
 
   pub nine-when : (step_of f e n m).answer.refusal ≡ 9 → flat_stands f ≡ false
   nine-when h = refuted (flat_stands f) (λ s. go (and_left (is_flat f) _ s) (and_right (is_flat f) (well_formed (record_in f)) s) (event_in e) refl)
     where
-      go : is_flat f ≡ true → well_formed (record_in f) ≡ true → (r : Read) → event_in e ≡ r → ⊥
-      go flat w Unknown is = none-when f flat e is n m w h
-      go flat w (Known known) is = known-when f flat e known is n m w h (agent.step_of (record_in f) known n m).outcome refl
+      go : is_flat f ≡ true → well_formed (record_in f) ≡ true → (r : Option Event) → event_in e ≡ r → ⊥
+      go flat w None is = none-when f flat e is n m w h
+      go flat w (Some known) is = known-when f flat e known is n m w h (agent.step_of (record_in f) known n m).outcome refl
 
 -- ---- every event keeps well-formed numbers well formed
 read-sized : (f : FlatRecord) → SizedFlat f → Sized (record_in f)
@@ -271,7 +268,7 @@ pub flat-stands : (r : Record) → length r.board.component ≡ most_components 
 flat-stands r components z w = rw (flat-is r components z, record-back r components z, w)
 
 module _ (f : FlatRecord) (z : SizedFlat f) (stands : flat_stands f ≡ true) (e : FlatEvent) (n m : ℕ) where
-  known_kept : (known : Event) → event_in e ≡ Known known → flat_stands (step_of f e n m).rec ≡ true
+  known_kept : (known : Event) → event_in e ≡ Some known → flat_stands (step_of f e n m).rec ≡ true
   known_kept known is =
       let flat = and_left (is_flat f) (well_formed (record_in f)) stands in
       let kept = step_kept (record_in f) known n m (and_right (is_flat f) (well_formed (record_in f)) stands) (read-sized f z) in
@@ -279,19 +276,19 @@ module _ (f : FlatRecord) (z : SizedFlat f) (stands : flat_stands f ≡ true) (e
       let long = ap (λ (b : Board). length b.component) same ∙ read-components f in
       ap flat_stands (record-through f flat e known is n m z) ∙ flat-stands (agent.step_of (record_in f) known n m).rec long kept.1 kept.0
 
-  none_kept : event_in e ≡ Unknown → (step_of f e n m).rec ≡ f
+  none_kept : event_in e ≡ None → (step_of f e n m).rec ≡ f
   unfolding step_of kept_with
   none_kept is = rw (and_left (is_flat f) (well_formed (record_in f)) stands, is)
 
   pub flat-kept : flat_stands (step_of f e n m).rec ≡ true
   flat-kept = go (event_in e) refl
     where
-      go : (r : Read) → event_in e ≡ r → flat_stands (step_of f e n m).rec ≡ true
-      go Unknown is = ap flat_stands (none_kept is) ∙ stands
-      go (Known known) is = known_kept known is
+      go : (r : Option Event) → event_in e ≡ r → flat_stands (step_of f e n m).rec ≡ true
+      go None is = ap flat_stands (none_kept is) ∙ stands
+      go (Some known) is = known_kept known is
 
 -- ---- a board's description that reads gives well-formed numbers
-pub fresh-flat : (description : List ℕ) (b : Board) → read_of description ≡ accepted b
+pub fresh-flat : (description : List ℕ) (b : Board) → read_of description ≡ Ok b
     → ((fresh_in description).refusal ≡ 0) × (flat_stands (fresh_in description).rec ≡ true)
 unfolding fresh_in fresh_of
 fresh-flat description b reads =

@@ -1,5 +1,5 @@
 -- Events, answers and what questions find, as numbers and back. Assumes nothing.
-use Rattle.std.specs.Prelude.{ℕ, eqb}
+use Rattle.std.specs.Prelude.{ℕ, eqb, None, Option, Result, Some}
 use Rattle.basics.specs.Choice.{pick}
 use Rattle.rules.specs.declared.Registers.{Registers}
 use Rattle.agent.specs.Numbers.{with_status, by_entry, Said, refused_with, said_of}
@@ -7,30 +7,20 @@ use Rattle.agent.specs.declared.Answer.{Answer}
 use Rattle.agent.specs.declared.Caller.{Caller}
 use Rattle.agent.specs.declared.Caller.TheVariants as caller
 use Rattle.agent.specs.declared.Freed.{Freed}
-use Rattle.agent.specs.declared.Outcome.{Outcome}
 use Rattle.agent.specs.declared.Release.{Release}
 use Rattle.agent.specs.declared.Release.TheVariants as release
 use Rattle.codes.specs.Outcomes.{returned, held, prime_started, activation_started, gone}
 use Rattle.log_record.specs.Rules.{number_of as log_number}
 use Rattle.board.specs.Packed.{length_in as board_length}
-use Rattle.board.specs.Numbers.{refusal_in as board_refusal}
-use Rattle.board.specs.declared.Written.{Written as BoardWritten}
+use Rattle.board.specs.Numbers.{refusal_of as board_refusal}
 use Rattle.log_record.specs.Packed.{length_in, skipped_by}
 use Rattle.log_record.specs.Numbers.{refusal_in, refusal_read}
 use Rattle.log_record.specs.declared.LogRecord.{LogRecord}
-use Rattle.log_record.specs.declared.ReadRecord.{ReadRecord}
-use Rattle.log_record.specs.declared.Written.{Written}
 use Rattle.log_book.specs.Log.{blank, said}
 use Rattle.log_book.specs.Numbers.{found_in as primed_in, component_in as primed_component, Numbers as LogNumbers, numbers_of as log_numbers}
-use Rattle.log_book.specs.declared.Answer.{Answer as LogAnswer}
 use Rattle.log_book.specs.declared.Flaw.{Flaw}
-use Rattle.log_book.specs.declared.Primed.{Primed}
 use Rattle.reader.specs.Numbers.{found_in as started_in, component_in as started_component, Numbers as StartNumbers, refused_with as not_started_with, numbers_of as start_numbers, refusal_of as cpus_refusal, place_of as cpus_place, cpus_in}
-use Rattle.reader.specs.declared.Answer.{Answer as StartAnswer}
-use Rattle.reader.specs.declared.Cpus.{Cpus}
-use Rattle.reader.specs.declared.Started.{Started}
 use Rattle.reason.specs.Numbers.{Numbers as ReasonNumbers, numbers_of as reason_numbers}
-use Rattle.reason.specs.declared.Explained.{Explained}
 use Rattle.trace.specs.Logged.{logged_of, of_kind}
 use Rattle.flat.specs.declared.FlatAnswer.{FlatAnswer}
 use Rattle.flat.specs.declared.FlatEvent.{FlatEvent}
@@ -41,11 +31,19 @@ use Rattle.flat.specs.declared.FlatStarted.{FlatStarted}
 use Rattle.flat.specs.declared.FlatCpus.{FlatCpus}
 use Rattle.flat.specs.declared.FlatWhy.{FlatWhy}
 use Rattle.flat.specs.declared.FlatWritten.{FlatWritten}
-use Rattle.trace.specs.declared.Read.{Read}
-use Rattle.trace.specs.declared.Read.TheVariants.{Known, Unknown}
+use Rattle.reason.specs.declared.Unexplained.TheVariants as unexplained
+use Rattle.rules.specs.declared.Refusal.{Refusal}
+use Rattle.board.specs.declared.Refusal.{Refusal as BoardRefusal}
+use Rattle.log_record.specs.declared.Refusal.{Refusal as LogRecordRefusal}
+use Rattle.log_book.specs.declared.Prepared.{Prepared}
+use Rattle.reader.specs.declared.Refusal.{Refusal as ReaderRefusal}
+use Rattle.cpuset.specs.declared.CpuSet.{CpuSet}
+use Rattle.reason.specs.declared.Reason.{Reason}
+use Rattle.reason.specs.declared.Unexplained.{Unexplained}
+use Rattle.rules.specs.declared.Event.{Event}
 
 -- ---- events: kinds as the log numbers them (Packed 3)
-abbrev pub event_in : FlatEvent → Read
+abbrev pub event_in : FlatEvent → Option Event
 event_in e = of_kind e.kind e.call e.report e.image
 
 -- ---- answers: the agent's numbers as they cross
@@ -56,7 +54,7 @@ answer_by s = record { refusal = s.refusal; caller = s.caller; returned = s.retu
 abbrev pub refused_answer : ℕ → FlatAnswer
 refused_answer n = answer_by (refused_with n)
 
-abbrev pub answer_of : Outcome → FlatAnswer
+abbrev pub answer_of : Result Answer Refusal → FlatAnswer
 answer_of o = answer_by (said_of o)
 
 -- ---- and back: the parts of an accepted answer
@@ -82,21 +80,21 @@ accepted_in a = record {
 }
 
 -- ---- the log record of an event with its answer, where it was accepted (Packed 12)
-abbrev pub logged_by : Read → FlatAnswer → LogRecord
-logged_by Unknown a = blank
-logged_by (Known e) a = logged_of e (accepted_in a)
+abbrev pub logged_by : Option Event → FlatAnswer → LogRecord
+logged_by None a = blank
+logged_by (Some e) a = logged_of e (accepted_in a)
 
 unfoldable pub logged_in : FlatEvent → FlatAnswer → LogRecord
 logged_in e a = pick (eqb a.refusal 0) (logged_by (event_in e) a) blank
 
-abbrev pub written_by : Written → FlatWritten
+abbrev pub written_by : Result ℕ LogRecordRefusal → FlatWritten
 written_by w = record { refusal = refusal_in w; bytes = length_in w }
 
-abbrev pub described_by : BoardWritten → FlatWritten
+abbrev pub described_by : Result ℕ BoardRefusal → FlatWritten
 described_by w = record { refusal = board_refusal w; bytes = board_length w }
 
 -- ---- a log record as it was read; zeros with a refusal
-abbrev pub read_by : ReadRecord → FlatRead
+abbrev pub read_by : Result LogRecord LogRecordRefusal → FlatRead
 read_by r = record { refusal = refusal_read r; bytes = skipped_by r; rec = said r }
 
 -- ---- what questions find
@@ -106,16 +104,16 @@ found_of c = record { found = 1; component = c }
 abbrev pub not_found : FlatFound
 not_found = record { found = 0; component = 0 }
 
-abbrev pub primed_found : Primed → FlatFound
+abbrev pub primed_found : Option ℕ → FlatFound
 primed_found p = record { found = primed_in p; component = primed_component p }
 
-abbrev pub started_found : Started → FlatFound
+abbrev pub started_found : Option ℕ → FlatFound
 started_found s = record { found = started_in s; component = started_component s }
 
 unfoldable pub prepared_with : LogNumbers → FlatPrepared
 prepared_with n = record { refusal = n.refusal; place = n.place; prepared = record { found = n.found; component = n.component }; looked = n.looked }
 
-abbrev pub prepared_by : LogAnswer → FlatPrepared
+abbrev pub prepared_by : Result Prepared Flaw → FlatPrepared
 prepared_by a = prepared_with (log_numbers a)
 
 unfoldable pub started_with : StartNumbers → FlatStarted
@@ -127,16 +125,16 @@ not_started n k = started_with (not_started_with n k)
 abbrev pub log_refused : Flaw → FlatStarted
 log_refused f = not_started (log_number f.refusal) f.place
 
-abbrev pub started_by : StartAnswer → FlatStarted
+abbrev pub started_by : Result (Option ℕ) ReaderRefusal → FlatStarted
 started_by a = started_with (start_numbers a)
 
 -- ---- which CPUs the log tells of
-abbrev pub cpus_by : Cpus → FlatCpus
+abbrev pub cpus_by : Result CpuSet Flaw → FlatCpus
 cpus_by c = record { refusal = cpus_refusal c; place = cpus_place c; cpus = cpus_in c }
 
 -- ---- why an ACTIVATE gets its answer
 unfoldable pub why_with : ReasonNumbers → FlatWhy
 why_with n = record { refusal = n.refusal; place = n.place; reason = n.reason; component = n.component; missing = n.missing }
 
-abbrev pub why_by : Explained → FlatWhy
+abbrev pub why_by : Result Reason Unexplained → FlatWhy
 why_by e = why_with (reason_numbers e)

@@ -1,15 +1,12 @@
 -- What a host's calls answer: the agent, the log, the plain reader and reasons through numbers. Assumes nothing.
-use Rattle.std.specs.Prelude.{ℕ, List}
+use Rattle.std.specs.Prelude.{ℕ, List, Err, None, Ok, Option, Result, Some}
 use Rattle.basics.specs.Choice.{pick}
 use Rattle.codes.specs.declared.Call.{Call}
 use Rattle.board.specs.Packed as board
 use Rattle.board.specs.Packed.{read_of}
 use Rattle.board.specs.Numbers.{refusal_of}
-use Rattle.board.specs.declared.Verdict.{Verdict}
-use Rattle.board.specs.declared.Verdict.TheVariants.{Accepted, Refused}
 use Rattle.board.specs.declared.Board.{Board}
 use Rattle.board.specs.declared.Refusal.TheVariants.{ReservedBit}
-use Rattle.board.specs.declared.Written.TheVariants.{Nothing}
 use Rattle.board_record.specs.Record.{fresh_of}
 use Rattle.board_record.specs.declared.Record.{Record}
 use Rattle.rules.specs.Decide.{admitted}
@@ -39,8 +36,8 @@ use Rattle.flat.specs.declared.FlatStepped.{FlatStepped}
 use Rattle.flat.specs.declared.FlatCpus.{FlatCpus}
 use Rattle.flat.specs.declared.FlatWhy.{FlatWhy}
 use Rattle.flat.specs.declared.FlatWritten.{FlatWritten}
-use Rattle.trace.specs.declared.Read.{Read}
-use Rattle.trace.specs.declared.Read.TheVariants.{Known, Unknown}
+use Rattle.board.specs.declared.Refusal.{Refusal}
+use Rattle.rules.specs.declared.Event.{Event}
 
 -- ---- the library itself: its ABI number, which rises with every change of a layout or of what a number means, and the bytes of
 -- what a host lends and gets
@@ -50,18 +47,18 @@ abi_of = record { number = 4; rec = 2024; event = 88; answer = 80 }
 
 -- ---- a board description from its parts: 22 for a flag that is neither 0 nor 1, then as its writer says
 unfoldable pub described_of : ℕ → FlatBoard → FlatWritten
-described_of room b = described_by (pick (has_flags b) (board.put_of room (board_in b)) (Nothing ReservedBit))
+described_of room b = described_by (pick (has_flags b) (board.put_of room (board_in b)) (Err ReservedBit))
 
 unfoldable pub description_of : List ℕ → FlatBoard → List ℕ
 description_of d b = pick (has_flags b) (board.buffer_of d (board_in b)) d
 
 -- ---- a fresh record from a packed board
-abbrev pub fresh_by : Verdict → Board → FlatRecord
-fresh_by Accepted b = flat_of (fresh_of b)
-fresh_by (Refused x) b = zero_record
+abbrev pub fresh_by : Result Board Refusal → FlatRecord
+fresh_by (Ok b) = flat_of (fresh_of b)
+fresh_by (Err x) = zero_record
 
 unfoldable pub fresh_in : List ℕ → FlatFresh
-fresh_in s = record { refusal = refusal_of (read_of s).verdict; rec = fresh_by (read_of s).verdict (read_of s).board }
+fresh_in s = record { refusal = refusal_of (read_of s); rec = fresh_by (read_of s) }
 
 -- ---- one event: 9 where the numbers are no record's, then as the agent says
 unfoldable pub kept_with : FlatRecord → ℕ → FlatStepped
@@ -75,23 +72,23 @@ through_of f s = record { rec = flat_with f.board s.rec; answer = answer_of s.ou
 unfoldable pub no_event : Record → ℕ → ℕ → ℕ
 no_event r n m = admitted rule_number r n m (log_number log-refusal.Unknown)
 
-abbrev pub step_by : Read → FlatRecord → ℕ → ℕ → FlatStepped
-step_by (Known e) f n m = through_of f (agent.step_of (record_in f) e n m)
-step_by Unknown f n m = kept_with f (no_event (record_in f) n m)
+abbrev pub step_by : Option Event → FlatRecord → ℕ → ℕ → FlatStepped
+step_by (Some e) f n m = through_of f (agent.step_of (record_in f) e n m)
+step_by None f n m = kept_with f (no_event (record_in f) n m)
 
 unfoldable pub step_of : FlatRecord → FlatEvent → ℕ → ℕ → FlatStepped
 step_of f e n m = pick (is_flat f) (step_by (event_in e) f n m) (kept_with f (rule_number NotWellFormed))
 
-abbrev pub entries_by : Read → FlatRecord → List ℕ → List ℕ → List ℕ
-entries_by (Known e) f entries contexts = agent.entries_of (record_in f) e entries contexts
-entries_by Unknown f entries contexts = entries
+abbrev pub entries_by : Option Event → FlatRecord → List ℕ → List ℕ → List ℕ
+entries_by (Some e) f entries contexts = agent.entries_of (record_in f) e entries contexts
+entries_by None f entries contexts = entries
 
 unfoldable pub entries_of : FlatRecord → FlatEvent → List ℕ → List ℕ → List ℕ
 entries_of f e entries contexts = pick (is_flat f) (entries_by (event_in e) f entries contexts) entries
 
-abbrev pub contexts_by : Read → FlatRecord → List ℕ → List ℕ → List ℕ
-contexts_by (Known e) f entries contexts = agent.contexts_of (record_in f) e entries contexts
-contexts_by Unknown f entries contexts = contexts
+abbrev pub contexts_by : Option Event → FlatRecord → List ℕ → List ℕ → List ℕ
+contexts_by (Some e) f entries contexts = agent.contexts_of (record_in f) e entries contexts
+contexts_by None f entries contexts = contexts
 
 unfoldable pub contexts_of : FlatRecord → FlatEvent → List ℕ → List ℕ → List ℕ
 contexts_of f e entries contexts = pick (is_flat f) (contexts_by (event_in e) f entries contexts) contexts

@@ -1,5 +1,5 @@
 -- A reader of deliveries as numbers and back, and what its functions answer (document 02, request 4). Assumes nothing.
-use Rattle.std.specs.Prelude.{ℕ, List, eqb}
+use Rattle.std.specs.Prelude.{ℕ, List, eqb, Err, None, Ok, Option, Result, Some}
 use Rattle.basics.specs.Choice.{pick}
 use Rattle.log_record.specs.Rules.{number_of}
 use Rattle.log_record.specs.declared.LogRecord.{LogRecord}
@@ -13,10 +13,6 @@ use Rattle.deliveries.specs.declared.Standing.{Standing}
 use Rattle.deliveries.specs.declared.Standing.TheVariants.{Open, Closed, Refused}
 use Rattle.deliveries.specs.declared.Refusal.{Refusal}
 use Rattle.deliveries.specs.declared.Refusal.TheVariants.{NoReader, AfterClose, Log}
-use Rattle.deliveries.specs.declared.Given.{Given}
-use Rattle.deliveries.specs.declared.Given.TheVariants as given
-use Rattle.deliveries.specs.declared.Ending.{Ending}
-use Rattle.deliveries.specs.declared.Ending.TheVariants as ending
 use Rattle.deliveries.specs.declared.Lead.{Lead}
 use Rattle.deliveries.specs.declared.Taken.{Taken}
 use Rattle.deliveries.specs.declared.Closing.{Closing}
@@ -78,25 +74,25 @@ lead_after NoReader f l = f
 lead_after AfterClose f l = flat_lead l
 lead_after (Log x) f l = flat_lead l
 
-abbrev pub lead_given : Given → FlatLead → Lead → FlatLead
-lead_given given.Nothing f l = flat_lead l
-lead_given (given.Record r) f l = flat_lead l
-lead_given (given.Refused x) f l = lead_after x f l
+abbrev pub lead_given : Result (Option LogRecord) Refusal → FlatLead → Lead → FlatLead
+lead_given (Ok None) f l = flat_lead l
+lead_given (Ok (Some r)) f l = flat_lead l
+lead_given (Err x) f l = lead_after x f l
 
-abbrev pub lead_ended : Ending → FlatLead → Lead → FlatLead
-lead_ended (ending.Records n) f l = flat_lead l
-lead_ended (ending.Refused x) f l = lead_after x f l
+abbrev pub lead_ended : Result ℕ Refusal → FlatLead → Lead → FlatLead
+lead_ended (Ok n) f l = flat_lead l
+lead_ended (Err x) f l = lead_after x f l
 
 -- 1 where a record is given, and the record; zeros where none is
-abbrev pub count_given : Given → ℕ
-count_given given.Nothing = 0
-count_given (given.Record r) = 1
-count_given (given.Refused x) = 0
+abbrev pub count_given : Result (Option LogRecord) Refusal → ℕ
+count_given (Ok None) = 0
+count_given (Ok (Some r)) = 1
+count_given (Err x) = 0
 
-abbrev pub record_given : Given → LogRecord
-record_given given.Nothing = blank
-record_given (given.Record r) = r
-record_given (given.Refused x) = blank
+abbrev pub record_given : Result (Option LogRecord) Refusal → LogRecord
+record_given (Ok None) = blank
+record_given (Ok (Some r)) = r
+record_given (Err x) = blank
 
 unfoldable pub taken_by : FlatLead → Taken → FlatTaken
 taken_by f t = record { lead = lead_given t.given f t.lead; refusal = refusal_given t.given; place = place_given t.given; used = t.used; given = count_given t.given; rec = record_given t.given }

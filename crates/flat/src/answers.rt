@@ -1,30 +1,25 @@
 // Events, answers and what questions find, as numbers and back.
 ghost use Rattle.std.specs.Prelude.{◌≡◌};
-ghost use Rattle.flat.specs.Answers.{event_in, refused_answer, answer_of, caller_in, release_in, logged_in, written_by, described_by, read_by, primed_found, found_of, not_found, started_found, prepared_by, not_started, log_refused, started_by, cpus_by};
+ghost use Rattle.flat.specs.Answers.{event_in, refused_answer, answer_of, caller_in, release_in, logged_in, written_by, described_by, read_by, primed_found, found_of, not_found, started_found, prepared_by, not_started, started_by, cpus_by};
 ghost use Rattle.flat.specs.Calls.{kept_with, through_of};
 
 use crate::{
     FlatAnswer, FlatCpus, FlatEvent, FlatFound, FlatPrepared, FlatRead, FlatRecord, FlatStarted,
     FlatStepped, FlatWritten,
 };
-use agent::{Answer, BY_ENTRY, Caller, Freed, NOBODY, Outcome, Release, Stepped, WITH_STATUS};
+use agent::{Answer, BY_ENTRY, Caller, Freed, NOBODY, Release, Stepped, WITH_STATUS};
 use codes::{ACTIVATION_STARTED, GONE, HELD, PRIME_STARTED, RETURNED};
-use log_book::{Flaw, Primed};
-use log_record::{LogRecord, RECORD_BYTES, ReadRecord, Written};
-use reader::{Cpus, Started};
+use log_record::{LogRecord, RECORD_BYTES};
 use rules::Registers;
-use trace::Read;
 
-pub(crate) fn event(e: FlatEvent) -> Read
+pub(crate) fn event(e: FlatEvent) -> Option<rules::Event>
     ensures { result ≡ event_in e }
 {
-    let call = e.call;
-    let report = e.report;
-    let image = e.image;
-    trace::event_of_kind(e.kind, call, report, image)
+    trace::event_of_kind(e.kind, e.call, e.report, e.image)
 }
 
 // A refusal, and nothing else.
+#[tactic(auto, unfolding(crate::specs::Answers::answer_by, agent::specs::Numbers::refused_with))]
 fn refused_answer(number: u64) -> FlatAnswer
     ensures { result ≡ refused_answer number }
 {
@@ -37,45 +32,41 @@ fn refused_answer(number: u64) -> FlatAnswer
     }
 }
 
-fn answer(o: Outcome) -> FlatAnswer
+#[tactic(auto, unfolding(crate::specs::Answers::answer_by, agent::specs::Numbers::accepted_with))]
+fn answer(o: Result<Answer, rules::Refusal>) -> FlatAnswer
     ensures { result ≡ answer_of o }
 {
     match o {
-        Outcome::Refused(x) => refused_answer(rules::number(x)),
-        Outcome::Accepted(a) => {
-            let caller = a.caller;
-            let release = a.release;
-            FlatAnswer {
-                refusal: 0,
-                caller: agent::caller_number(caller),
-                returned: agent::returned(caller),
-                release: agent::release_number(release),
-                freed: agent::freed_by(release),
-            }
-        }
+        Err(x) => refused_answer(rules::number(x)),
+        Ok(a) => FlatAnswer {
+            refusal: 0,
+            caller: agent::caller_number(a.caller),
+            returned: agent::returned(a.caller),
+            release: agent::release_number(a.release),
+            freed: agent::freed_by(a.release),
+        },
     }
 }
 
 // The record stays, and nothing but the refusal is answered.
+#[tactic(auto, unfolding(crate::specs::Calls::kept_with))]
 pub(crate) fn refused(rec: FlatRecord, number: u64) -> FlatStepped
     ensures { result ≡ kept_with rec number }
 {
     FlatStepped {
-        rec: rec,
+        rec,
         answer: refused_answer(number),
     }
 }
 
 // What the agent's step is as numbers; no event changes the board.
+#[tactic(auto, unfolding(crate::specs::Calls::through_of))]
 pub(crate) fn stepped(rec: FlatRecord, s: Stepped) -> FlatStepped
     ensures { result ≡ through_of rec s }
 {
-    let b = rec.board;
-    let next = s.rec;
-    let outcome = s.outcome;
     FlatStepped {
-        rec: crate::records::flat_with(b, next),
-        answer: answer(outcome),
+        rec: crate::records::flat_with(rec.board, s.rec),
+        answer: answer(s.outcome),
     }
 }
 
@@ -97,10 +88,9 @@ fn caller(number: u64, x: Registers) -> Caller
 fn release(number: u64, f: Freed) -> Release
     ensures { result ≡ release_in number f }
 {
-    let cpus = f.cpus;
     match number {
         WITH_STATUS => Release::Returned(f),
-        BY_ENTRY => Release::Resumed(cpus),
+        BY_ENTRY => Release::Resumed(f.cpus),
         _ => Release::Nobody,
     }
 }
@@ -110,63 +100,61 @@ fn release(number: u64, f: Freed) -> Release
 pub(crate) fn logged(e: FlatEvent, a: FlatAnswer) -> LogRecord
     ensures { result ≡ logged_in e a }
 {
-    let returned = a.returned;
-    let freed = a.freed;
     if a.refusal != 0 {
         return log_book::blank();
     }
     match event(e) {
-        Read::Unknown => log_book::blank(),
-        Read::Known(event) => trace::logged(
+        None => log_book::blank(),
+        Some(event) => trace::logged(
             event,
             Answer {
-                caller: caller(a.caller, returned),
-                release: release(a.release, freed),
+                caller: caller(a.caller, a.returned),
+                release: release(a.release, a.freed),
             },
         ),
     }
 }
 
-pub(crate) fn written(w: Written) -> FlatWritten
+pub(crate) fn written(w: Result<usize, log_record::Refusal>) -> FlatWritten
     ensures { result ≡ written_by w }
 {
     match w {
-        Written::Bytes(n) => FlatWritten {
+        Ok(n) => FlatWritten {
             refusal: 0,
             bytes: n,
         },
-        Written::Nothing(x) => FlatWritten {
+        Err(x) => FlatWritten {
             refusal: log_record::number(x),
             bytes: 0,
         },
     }
 }
 
-pub(crate) fn described(w: board::Written) -> FlatWritten
+pub(crate) fn described(w: Result<usize, board::Refusal>) -> FlatWritten
     ensures { result ≡ described_by w }
 {
     match w {
-        board::Written::Bytes(n) => FlatWritten {
+        Ok(n) => FlatWritten {
             refusal: 0,
             bytes: n,
         },
-        board::Written::Nothing(x) => FlatWritten {
+        Err(x) => FlatWritten {
             refusal: board::number(x),
             bytes: 0,
         },
     }
 }
 
-pub(crate) fn record_read(r: ReadRecord) -> FlatRead
+pub(crate) fn record_read(r: Result<LogRecord, log_record::Refusal>) -> FlatRead
     ensures { result ≡ read_by r }
 {
     match r {
-        ReadRecord::Record(rec) => FlatRead {
+        Ok(rec) => FlatRead {
             refusal: 0,
             bytes: RECORD_BYTES,
-            rec: rec,
+            rec,
         },
-        ReadRecord::Refused(x) => FlatRead {
+        Err(x) => FlatRead {
             refusal: log_record::number(x),
             bytes: 0,
             rec: log_book::blank(),
@@ -179,7 +167,7 @@ fn found(component: u64) -> FlatFound
 {
     FlatFound {
         found: 1,
-        component: component,
+        component,
     }
 }
 
@@ -192,96 +180,83 @@ fn not_found() -> FlatFound
     }
 }
 
-fn primed(p: Primed) -> FlatFound
+fn primed(p: Option<u64>) -> FlatFound
     ensures { result ≡ primed_found p }
 {
     match p {
-        Primed::Nothing => not_found(),
-        Primed::Of(c) => found(c),
+        None => not_found(),
+        Some(c) => found(c),
     }
 }
 
-fn begun(s: Started) -> FlatFound
+fn begun(s: Option<u64>) -> FlatFound
     ensures { result ≡ started_found s }
 {
     match s {
-        Started::Nothing => not_found(),
-        Started::Of(c) => found(c),
+        None => not_found(),
+        Some(c) => found(c),
     }
 }
 
-pub(crate) fn prepared(a: log_book::Answer) -> FlatPrepared
+#[tactic(auto, unfolding(crate::specs::Answers::prepared_with, log_book::specs::Numbers::found_with, log_book::specs::Numbers::refused_with))]
+pub(crate) fn prepared(a: Result<log_book::Prepared, log_book::Flaw>) -> FlatPrepared
     ensures { result ≡ prepared_by a }
 {
     match a {
-        log_book::Answer::Found(p) => {
-            let which = p.primed;
-            FlatPrepared {
-                refusal: 0,
-                place: 0,
-                prepared: primed(which),
-                looked: p.looked,
-            }
-        }
-        log_book::Answer::Refused(f) => {
-            let x = f.refusal;
-            FlatPrepared {
-                refusal: log_record::number(x),
-                place: f.place,
-                prepared: not_found(),
-                looked: 0,
-            }
-        }
+        Ok(p) => FlatPrepared {
+            refusal: 0,
+            place: 0,
+            prepared: primed(p.primed),
+            looked: p.looked,
+        },
+        Err(f) => FlatPrepared {
+            refusal: log_record::number(f.refusal),
+            place: f.place,
+            prepared: not_found(),
+            looked: 0,
+        },
     }
 }
 
+#[tactic(auto, unfolding(crate::specs::Answers::started_with, reader::specs::Numbers::refused_with))]
 fn not_started(number: u64, place: usize) -> FlatStarted
     ensures { result ≡ not_started number place }
 {
     FlatStarted {
         refusal: number,
-        place: place,
+        place,
         started: not_found(),
     }
 }
 
-fn log_refused(f: Flaw) -> FlatStarted
-    ensures { result ≡ log_refused f }
-{
-    let x = f.refusal;
-    not_started(log_record::number(x), f.place)
-}
-
-pub(crate) fn started(a: reader::Answer) -> FlatStarted
+#[tactic(auto, unfolding(crate::specs::Answers::started_with, reader::specs::Numbers::found_with))]
+pub(crate) fn started(a: Result<Option<u64>, reader::Refusal>) -> FlatStarted
     ensures { result ≡ started_by a }
 {
     match a {
-        reader::Answer::Found(s) => FlatStarted {
+        Ok(s) => FlatStarted {
             refusal: 0,
             place: 0,
             started: begun(s),
         },
-        reader::Answer::BoardRefused(x) => not_started(board::number(x), 0),
-        reader::Answer::LogRefused(f) => log_refused(f),
+        Err(reader::Refusal::Board(x)) => not_started(board::number(x), 0),
+        Err(reader::Refusal::Log(f)) => { not_started(log_record::number(f.refusal), f.place) }
     }
 }
 
-pub(crate) fn cpus(c: Cpus) -> FlatCpus
+pub(crate) fn cpus(c: Result<cpuset::CpuSet, log_book::Flaw>) -> FlatCpus
     ensures { result ≡ cpus_by c }
 {
     match c {
-        Cpus::Found(s) => FlatCpus {
+        Ok(s) => FlatCpus {
             refusal: 0,
             place: 0,
             cpus: s,
         },
-        Cpus::Refused(f) => {
-            let x = f.refusal;
-            FlatCpus {
-                refusal: log_record::number(x),
-                place: f.place,
-                cpus: cpuset::none(),
-            }
-        }
+        Err(f) => FlatCpus {
+            refusal: log_record::number(f.refusal),
+            place: f.place,
+            cpus: cpuset::none(),
+        },
     }
 }

@@ -2,10 +2,10 @@
 ghost use Rattle.std.specs.Prelude.{◌≡◌};
 ghost use Rattle.log_book.specs.Log.{flaw};
 ghost use Rattle.deliveries.specs.declared.Standing.TheVariants.{Refused};
-ghost use Rattle.flat.specs.Leads.{standing_number, standing_refusal, standing_place, flat_lead, refusal_in, nobodys, unrefused_in, standing_in, lead_in, lead_after, taken_by, closed_by};
+ghost use Rattle.flat.specs.Leads.{flat_lead, refusal_in, nobodys, standing_in, lead_in, lead_after, taken_by, closed_by};
 
 use crate::{FlatClosed, FlatLead, FlatTaken};
-use deliveries::{Closing, Ending, Given, Lead, Refusal, Standing, Taken};
+use deliveries::{Closing, Lead, Refusal, Standing, Taken};
 use log_book::Flaw;
 
 // The standings' numbers.
@@ -15,51 +15,24 @@ const CLOSED: u64 = 1;
 
 const REFUSED: u64 = 2;
 
-fn standing_number(s: Standing) -> u64
-    ensures { result ≡ standing_number s }
-{
-    match s {
-        Standing::Open => OPEN,
-        Standing::Closed => CLOSED,
-        Standing::Refused(_) => REFUSED,
-    }
-}
-
-fn standing_refusal(s: Standing) -> u64
-    ensures { result ≡ standing_refusal s }
-{
-    match s {
-        Standing::Open => 0,
-        Standing::Closed => 0,
-        Standing::Refused(f) => {
-            let x = f.refusal;
-            log_record::number(x)
-        }
-    }
-}
-
-fn standing_place(s: Standing) -> usize
-    ensures { result ≡ standing_place s }
-{
-    match s {
-        Standing::Open => 0,
-        Standing::Closed => 0,
-        Standing::Refused(f) => f.place,
-    }
-}
-
+#[tactic(auto, unfolding(crate::specs::Leads::flat_lead))]
 pub(crate) fn flat(l: Lead) -> FlatLead
     ensures { result ≡ flat_lead l }
 {
-    let standing = l.standing;
+    let (standing, refusal, place) = match l.standing {
+        Standing::Open => (OPEN, 0, 0),
+        Standing::Closed => (CLOSED, 0, 0),
+        Standing::Refused(f) => (REFUSED, log_record::number(f.refusal), f.place),
+    };
+    // named first: the check takes an array's field into a struct only so
     let kept = l.kept;
     FlatLead {
-        standing: standing_number(standing),
-        refusal: standing_refusal(standing),
-        place: standing_place(standing),
+        standing,
+        refusal,
+        place,
         records: l.records,
         length: l.length,
-        kept: kept,
+        kept,
     }
 }
 
@@ -79,10 +52,7 @@ fn refusal(number: u64) -> log_record::Refusal
 fn refused_at(x: log_record::Refusal, place: usize) -> Standing
     ensures { result ≡ Refused (flaw x place) }
 {
-    Standing::Refused(Flaw {
-        refusal: x,
-        place: place,
-    })
+    Standing::Refused(Flaw { refusal: x, place })
 }
 
 // A standing that no reader has.
@@ -92,40 +62,29 @@ fn nobodys() -> Standing
     refused_at(log_record::Refusal::NoRoom, 0)
 }
 
-fn unrefused(number: u64) -> Standing
-    ensures { result ≡ unrefused_in number }
+#[tactic(auto, unfolding(crate::specs::Leads::standing_in))]
+fn standing(number: u64, x: u64, place: usize) -> Standing
+    ensures { result ≡ standing_in number x place }
 {
-    match number {
-        OPEN => Standing::Open,
-        CLOSED => Standing::Closed,
+    match (number, x, place) {
+        (REFUSED, _, _) => refused_at(refusal(x), place),
+        (OPEN, 0, 0) => Standing::Open,
+        (CLOSED, 0, 0) => Standing::Closed,
         _ => nobodys(),
     }
 }
 
-fn standing(number: u64, x: u64, place: usize) -> Standing
-    ensures { result ≡ standing_in number x place }
-{
-    if number == REFUSED {
-        return refused_at(refusal(x), place);
-    }
-    if x != 0 {
-        return nobodys();
-    }
-    if place != 0 {
-        return nobodys();
-    }
-    unrefused(number)
-}
-
+#[tactic(auto, unfolding(crate::specs::Leads::lead_in))]
 pub(crate) fn lead(f: FlatLead) -> Lead
     ensures { result ≡ lead_in f }
 {
+    // named first: the check takes an array's field into a struct only so
     let kept = f.kept;
     Lead {
         standing: standing(f.standing, f.refusal, f.place),
         records: f.records,
         length: f.length,
-        kept: kept,
+        kept,
     }
 }
 
@@ -135,35 +94,33 @@ fn after(x: Refusal, f: FlatLead, l: Lead) -> FlatLead
 {
     match x {
         Refusal::NoReader => f,
-        Refusal::AfterClose => flat(l),
-        Refusal::Log(_) => flat(l),
+        Refusal::AfterClose | Refusal::Log(_) => flat(l),
     }
 }
 
+#[tactic(auto, unfolding(crate::specs::Leads::taken_by))]
 pub(crate) fn taken(f: FlatLead, t: Taken) -> FlatTaken
     ensures { result ≡ taken_by f t }
 {
-    let l = t.lead;
-    let given = t.given;
-    match given {
-        Given::Nothing => FlatTaken {
-            lead: flat(l),
+    match t.given {
+        Ok(None) => FlatTaken {
+            lead: flat(t.lead),
             refusal: 0,
             place: 0,
             used: t.used,
             given: 0,
             rec: log_book::blank(),
         },
-        Given::Record(r) => FlatTaken {
-            lead: flat(l),
+        Ok(Some(rec)) => FlatTaken {
+            lead: flat(t.lead),
             refusal: 0,
             place: 0,
             used: t.used,
             given: 1,
-            rec: r,
+            rec,
         },
-        Given::Refused(x) => FlatTaken {
-            lead: after(x, f, l),
+        Err(x) => FlatTaken {
+            lead: after(x, f, t.lead),
             refusal: deliveries::number(x),
             place: deliveries::place(x),
             used: t.used,
@@ -173,20 +130,19 @@ pub(crate) fn taken(f: FlatLead, t: Taken) -> FlatTaken
     }
 }
 
+#[tactic(auto, unfolding(crate::specs::Leads::closed_by))]
 pub(crate) fn closed(f: FlatLead, c: Closing) -> FlatClosed
     ensures { result ≡ closed_by f c }
 {
-    let l = c.lead;
-    let ending = c.ending;
-    match ending {
-        Ending::Records(n) => FlatClosed {
-            lead: flat(l),
+    match c.ending {
+        Ok(records) => FlatClosed {
+            lead: flat(c.lead),
             refusal: 0,
             place: 0,
-            records: n,
+            records,
         },
-        Ending::Refused(x) => FlatClosed {
-            lead: after(x, f, l),
+        Err(x) => FlatClosed {
+            lead: after(x, f, c.lead),
             refusal: deliveries::number(x),
             place: deliveries::place(x),
             records: 0,

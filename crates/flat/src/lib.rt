@@ -19,7 +19,6 @@ use deliveries::MOST_KEPT;
 use log_record::LogRecord;
 use reason::Activate;
 use rules::{Image, Registers, Report};
-use trace::Read;
 
 // The ABI number, which rises with every change of a layout or of what a number means, and the bytes of the structs.
 const ABI: u64 = 4;
@@ -218,6 +217,7 @@ pub struct FlatClosed {
 }
 
 // Which library this is.
+#[tactic(auto, unfolding(crate::specs::Calls::abi_of))]
 pub fn abi() -> FlatAbi
     ensures { result ≡ abi_of }
 {
@@ -230,6 +230,7 @@ pub fn abi() -> FlatAbi
 }
 
 // Writes a board's description from its parts at the start of the buffer; bytes not written stay.
+#[tactic(auto, unfolding(crate::specs::Calls::described_of, crate::specs::Calls::description_of))]
 pub fn describe(buf: &mut [u8], b: FlatBoard) -> FlatWritten
     ensures value { result ≡ described_of (length buf.old) b }
     ensures buf_after { buf.new ≡ description_of buf.old b }
@@ -237,22 +238,20 @@ pub fn describe(buf: &mut [u8], b: FlatBoard) -> FlatWritten
     if records::has_flags(b) {
         return answers::described(board::put_board(buf, records::board(b)));
     }
-    answers::described(board::Written::Nothing(board::Refusal::ReservedBit))
+    answers::described(Err(board::Refusal::ReservedBit))
 }
 
 // The record of a board that was just switched on, from its packed description.
+#[tactic(auto, unfolding(crate::specs::Calls::fresh_in))]
 pub fn fresh(board: &[u8]) -> FlatFresh
     ensures { result ≡ fresh_in board.now }
 {
-    let read = board::read_board(board);
-    let verdict = read.verdict;
-    let b = read.board;
-    match verdict {
-        board::Verdict::Accepted => FlatFresh {
+    match board::read_board(board) {
+        Ok(b) => FlatFresh {
             refusal: 0,
             rec: records::flat(board_record::fresh(b)),
         },
-        board::Verdict::Refused(x) => FlatFresh {
+        Err(x) => FlatFresh {
             refusal: board::number(x),
             rec: records::zeros(),
         },
@@ -260,39 +259,35 @@ pub fn fresh(board: &[u8]) -> FlatFresh
 }
 
 // The refusal of an event that is none of the four.
+#[tactic(auto, unfolding(crate::specs::Calls::no_event), using(rules::proofs::Admitted::goes_on))]
 fn no_event(rec: Record, entries: usize, contexts: usize) -> u64
     ensures { result ≡ no_event rec entries contexts }
 {
     match rules::admit(rec, entries, contexts) {
-        rules::Admission::Refused(x) => rules::number(x),
-        rules::Admission::Admitted => log_record::number(log_record::Refusal::Unknown),
+        Err(x) => rules::number(x),
+        Ok(()) => log_record::number(log_record::Refusal::Unknown),
     }
 }
 
 // One event. In the two tables only the places of CPUs that resume by entry are written.
+#[tactic(auto, unfolding(crate::specs::Calls::step_of, crate::specs::Calls::entries_of, crate::specs::Calls::contexts_of))]
 pub fn step(f: FlatRecord, e: FlatEvent, entries: &mut [u64], contexts: &mut [u64]) -> FlatStepped
     ensures value { result ≡ step_of f e (length entries.old) (length contexts.old) }
     ensures entries_after { entries.new ≡ entries_of f e entries.old contexts.old }
     ensures contexts_after { contexts.new ≡ contexts_of f e entries.old contexts.old }
 {
-    if records::is_flat(f) {
-        let rec = records::record(f);
-        match answers::event(e) {
-            Read::Known(event) => {
-                let s = agent::step(rec, event, entries, contexts);
-                answers::stepped(f, s)
-            }
-            Read::Unknown => {
-                let number = no_event(rec, entries.len(), contexts.len());
-                answers::refused(f, number)
-            }
-        }
-    } else {
-        answers::refused(f, rules::number(rules::Refusal::NotWellFormed))
+    if !records::is_flat(f) {
+        return answers::refused(f, rules::number(rules::Refusal::NotWellFormed));
+    }
+    let rec = records::record(f);
+    match answers::event(e) {
+        Some(event) => answers::stepped(f, agent::step(rec, event, entries, contexts)),
+        None => answers::refused(f, no_event(rec, entries.len(), contexts.len())),
     }
 }
 
 // Writes the log record of an accepted event at the start of the buffer; bytes not written stay.
+#[tactic(auto, unfolding(crate::specs::Calls::written_of, crate::specs::Calls::buffer_of))]
 pub fn log(buf: &mut [u8], e: FlatEvent, a: FlatAnswer) -> FlatWritten
     ensures value { result ≡ written_of (length buf.old) e a }
     ensures buf_after { buf.new ≡ buffer_of buf.old e a }
@@ -301,6 +296,7 @@ pub fn log(buf: &mut [u8], e: FlatEvent, a: FlatAnswer) -> FlatWritten
 }
 
 // The log record that the bytes open with.
+#[tactic(auto, unfolding(crate::specs::Calls::read_in))]
 pub fn read_record(log: &[u8]) -> FlatRead
     ensures { result ≡ read_in log.now }
 {
@@ -308,6 +304,7 @@ pub fn read_record(log: &[u8]) -> FlatRead
 }
 
 // Which component is prepared at a place of a log.
+#[tactic(auto, unfolding(crate::specs::Calls::prepared_in))]
 pub fn prepared(log: &[u8], place: usize) -> FlatPrepared
     ensures { result ≡ prepared_in log.now place }
 {
@@ -315,6 +312,7 @@ pub fn prepared(log: &[u8], place: usize) -> FlatPrepared
 }
 
 // The component whose rendezvous activation starts at a call made at a place of a log.
+#[tactic(auto, unfolding(crate::specs::Calls::started_in))]
 pub fn starts(board: &[u8], log: &[u8], place: usize, call: Call) -> FlatStarted
     ensures { result ≡ started_in board.now log.now place call }
 {
@@ -322,6 +320,7 @@ pub fn starts(board: &[u8], log: &[u8], place: usize, call: Call) -> FlatStarted
 }
 
 // The powered CPUs at a place of a log, by the log alone.
+#[tactic(auto, unfolding(crate::specs::Calls::powered_in))]
 pub fn powered(log: &[u8], place: usize) -> FlatCpus
     ensures { result ≡ powered_in log.now place }
 {
@@ -329,6 +328,7 @@ pub fn powered(log: &[u8], place: usize) -> FlatCpus
 }
 
 // The held CPUs at a place of a log, by the log alone.
+#[tactic(auto, unfolding(crate::specs::Calls::held_in))]
 pub fn held(log: &[u8], place: usize) -> FlatCpus
     ensures { result ≡ held_in log.now place }
 {
@@ -336,6 +336,7 @@ pub fn held(log: &[u8], place: usize) -> FlatCpus
 }
 
 // Why an ACTIVATE made at a place of a log gets its answer.
+#[tactic(auto, unfolding(crate::specs::Calls::why_in))]
 pub fn why(board: &[u8], log: &[u8], place: usize, a: Activate) -> FlatWhy
     ensures { result ≡ why_in board.now log.now place a }
 {
@@ -350,6 +351,7 @@ pub fn lead_open() -> FlatLead
 }
 
 // Takes a delivery as far as it gives one record.
+#[tactic(auto, unfolding(crate::specs::Leads::taken_in))]
 pub fn lead_take(f: FlatLead, delivery: &[u8]) -> FlatTaken
     ensures { result ≡ taken_in f delivery.now }
 {
@@ -357,6 +359,7 @@ pub fn lead_take(f: FlatLead, delivery: &[u8]) -> FlatTaken
 }
 
 // Tells a reader that the log ends here.
+#[tactic(auto, unfolding(crate::specs::Leads::closed_in))]
 pub fn lead_close(f: FlatLead) -> FlatClosed
     ensures { result ≡ closed_in f }
 {

@@ -1,14 +1,13 @@
 // Reasons as numbers.
 ghost use Rattle.std.specs.Prelude.{◌≡◌};
-ghost use Rattle.log_record.specs.Rules.{number_of as log_number};
 ghost use Rattle.reason.specs.Numbers.{because_of, refused_with};
 ghost use Rattle.flat.specs.Answers.{why_with, why_by};
 
 use crate::FlatWhy;
 use history::DEPARTS;
-use log_book::Flaw;
-use reason::{Explained, Reason};
+use reason::Reason;
 
+#[tactic(auto, unfolding(crate::specs::Answers::why_with, reason::specs::Numbers::because_of))]
 fn because(x: Reason) -> FlatWhy
     ensures { result ≡ why_with (because_of x) }
 {
@@ -21,33 +20,27 @@ fn because(x: Reason) -> FlatWhy
     }
 }
 
+#[tactic(auto, unfolding(crate::specs::Answers::why_with, reason::specs::Numbers::refused_with))]
 fn unexplained(number: u64, place: usize) -> FlatWhy
     ensures { result ≡ why_with (refused_with number place) }
 {
     FlatWhy {
         refusal: number,
-        place: place,
+        place,
         reason: 0,
         component: 0,
         missing: cpuset::none(),
     }
 }
 
-fn log_refused(f: Flaw) -> FlatWhy
-    ensures { result ≡ why_with (refused_with (log_number f.refusal) f.place) }
-{
-    let x = f.refusal;
-    unexplained(log_record::number(x), f.place)
-}
-
-pub(crate) fn explained(e: Explained) -> FlatWhy
+pub(crate) fn explained(e: Result<Reason, reason::Unexplained>) -> FlatWhy
     ensures { result ≡ why_by e }
 {
     match e {
-        Explained::Because(x) => because(x),
-        Explained::BoardRefused(x) => unexplained(board::number(x), 0),
-        Explained::LogRefused(f) => log_refused(f),
-        Explained::Departs(place) => unexplained(DEPARTS, place),
-        Explained::CallRefused(x) => unexplained(rules::number(x), 0),
+        Ok(x) => because(x),
+        Err(reason::Unexplained::Board(x)) => unexplained(board::number(x), 0),
+        Err(reason::Unexplained::Log(f)) => unexplained(log_record::number(f.refusal), f.place),
+        Err(reason::Unexplained::Departs(place)) => unexplained(DEPARTS, place),
+        Err(reason::Unexplained::Call(x)) => unexplained(rules::number(x), 0),
     }
 }

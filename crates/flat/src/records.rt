@@ -1,18 +1,12 @@
 // A board's record as numbers, and back.
-ghost use Rattle.std.specs.Prelude.{◌≡◌, ◌≤◌, min};
+ghost use Rattle.std.specs.Prelude.{◌≡◌, min};
+ghost use Rattle.std.specs.List.{list_all};
 ghost use Rattle.board.specs.Description.{most_components};
-ghost use Rattle.board.specs.Packed.{digit_of};
-ghost use Rattle.flat.specs.Records.{state_in, is_state, flat_component, component_in, is_flat_component, blank_flat, flat_components, components_in, are_flat_components, has_flags, flat_flags, flags_in, are_flags, flat_board, board_in, flat_with, flat_of, record_in, is_flat, zero_record};
+ghost use Rattle.flat.specs.Records.{state_in, is_state, flat_component, component_in, is_flat_component, blank_flat, flat_components, components_in, has_flags, flat_flags, flags_in, is_flag, flat_board, board_in, flat_with, flat_of, record_in, is_flat, zero_record};
 
 use crate::{FlatBoard, FlatComponent, FlatRecord};
 use board::{Board, Component, MOST_COMPONENTS, MOST_CPUS, UUID_BYTES};
 use board_record::{Record, STATES, State};
-
-fn digit(b: bool) -> u8
-    ensures { result ≡ digit_of b }
-{
-    if b { 1 } else { 0 }
-}
 
 // The state of this number and component; of a number that is no state's, which `is_state` refuses, dead.
 fn state(number: u64, c: u64) -> State
@@ -36,31 +30,32 @@ fn state(number: u64, c: u64) -> State
 fn is_state(number: u64, c: u64) -> bool
     ensures { result ≡ is_state number c }
 {
-    if number < STATES as u64 {
-        return board_record::subject_number(state(number, c)) == c;
-    }
-    false
+    number < STATES as u64 && board_record::subject_number(state(number, c)) == c
 }
 
+#[tactic(auto, unfolding(crate::specs::Records::flat_component))]
 fn flat_component(c: Component) -> FlatComponent
     ensures { result ≡ flat_component c }
 {
+    // named first: the check takes an array's field into a struct only so
     let uuid = c.uuid;
     FlatComponent {
-        uuid: uuid,
+        uuid,
         svn: c.svn,
-        capable: digit(c.capable),
-        may_reset: digit(c.may_reset),
-        optional: digit(c.optional),
+        capable: u8::from(c.capable),
+        may_reset: u8::from(c.may_reset),
+        optional: u8::from(c.optional),
     }
 }
 
+#[tactic(auto, unfolding(crate::specs::Records::component_in))]
 fn component(c: FlatComponent) -> Component
     ensures { result ≡ component_in c }
 {
+    // named first: the check takes an array's field into a struct only so
     let uuid = c.uuid;
     Component {
-        uuid: uuid,
+        uuid,
         capable: c.capable == 1,
         may_reset: c.may_reset == 1,
         optional: c.optional == 1,
@@ -68,16 +63,10 @@ fn component(c: FlatComponent) -> Component
     }
 }
 
-fn is_flat_component(c: FlatComponent) -> bool
-    ensures { result ≡ is_flat_component c }
+fn is_flat_component(c: &FlatComponent) -> bool
+    ensures { result ≡ is_flat_component c.now }
 {
-    if c.capable > 1 {
-        return false;
-    }
-    if c.may_reset > 1 {
-        return false;
-    }
-    c.optional <= 1
+    c.capable <= 1 && c.may_reset <= 1 && c.optional <= 1
 }
 
 fn blank() -> FlatComponent
@@ -92,93 +81,63 @@ fn blank() -> FlatComponent
     }
 }
 
-fn flat_components(from: [Component; MOST_COMPONENTS]) -> [FlatComponent; MOST_COMPONENTS]
-    ensures { result ≡ flat_components from }
+fn flat_components(from: &[Component; MOST_COMPONENTS]) -> [FlatComponent; MOST_COMPONENTS]
+    ensures { result ≡ flat_components from.now }
 {
+    // a place at a time: `map` takes the table by value, and the stack of `fresh` is bounded (host/lfa.h)
     let mut all = [blank(); MOST_COMPONENTS];
-    let mut i: usize = 0;
-    while i < MOST_COMPONENTS {
+    for i in 0..MOST_COMPONENTS {
         all[i] = flat_component(from[i]);
-        i += 1;
     }
     all
 }
 
-fn components(from: [FlatComponent; MOST_COMPONENTS]) -> [Component; MOST_COMPONENTS]
-    ensures { result ≡ components_in from }
+fn components(from: &[FlatComponent; MOST_COMPONENTS]) -> [Component; MOST_COMPONENTS]
+    ensures { result ≡ components_in from.now }
 {
+    // a place at a time, as above
     let mut all = [component(blank()); MOST_COMPONENTS];
-    let mut i: usize = 0;
-    while i < MOST_COMPONENTS {
+    for i in 0..MOST_COMPONENTS {
         all[i] = component(from[i]);
-        i += 1;
     }
     all
 }
 
-// Whether the flags of the first n components are 0 or 1.
-fn are_flat_components(all: [FlatComponent; MOST_COMPONENTS], n: usize) -> bool
-    requires { n ≤ most_components }
-    ensures { result ≡ are_flat_components n all }
+// Whether the flags of these components are 0 or 1.
+fn are_flat_components(all: &[FlatComponent]) -> bool
+    ensures { result ≡ list_all is_flat_component all.now }
 {
-    let mut i: usize = 0;
-    while i < n {
-        if is_flat_component(all[i]) {
-            i += 1;
-        } else {
-            return false;
-        }
-    }
-    true
+    all.iter().all(is_flat_component)
 }
 
 fn flat_flags(from: [bool; MOST_COMPONENTS]) -> [u8; MOST_COMPONENTS]
     ensures { result ≡ flat_flags from }
 {
-    let mut all = [0u8; MOST_COMPONENTS];
-    let mut i: usize = 0;
-    while i < MOST_COMPONENTS {
-        all[i] = digit(from[i]);
-        i += 1;
-    }
-    all
+    from.map(u8::from)
 }
 
 fn flags(from: [u8; MOST_COMPONENTS]) -> [bool; MOST_COMPONENTS]
     ensures { result ≡ flags_in from }
 {
-    let mut all = [false; MOST_COMPONENTS];
-    let mut i: usize = 0;
-    while i < MOST_COMPONENTS {
-        all[i] = from[i] == 1;
-        i += 1;
-    }
-    all
+    from.map(|flag| flag == 1)
 }
 
-fn are_flags(all: [u8; MOST_COMPONENTS]) -> bool
-    ensures { result ≡ are_flags all }
+fn are_flags(all: &[u8]) -> bool
+    ensures { result ≡ list_all is_flag all.now }
 {
-    let mut i: usize = 0;
-    while i < MOST_COMPONENTS {
-        if all[i] > 1 {
-            return false;
-        }
-        i += 1;
-    }
-    true
+    all.iter().all(|flag| *flag <= 1)
 }
 
+#[tactic(auto, unfolding(crate::specs::Records::flat_board))]
 fn flat_board(b: Board) -> FlatBoard
     ensures { result ≡ flat_board b }
 {
-    let component = b.component;
     FlatBoard {
         components: b.components,
         cpus: b.cpus,
         first: b.first,
         last: b.last,
-        component: flat_components(component),
+        component: flat_components(&b.component),
     }
 }
 
@@ -186,107 +145,93 @@ fn flat_board(b: Board) -> FlatBoard
 fn within_count(n: u64) -> usize
     ensures { result ≡ min n most_components }
 {
-    if n < MOST_COMPONENTS as u64 {
-        n as usize
-    } else {
-        MOST_COMPONENTS
-    }
+    n.min(MOST_COMPONENTS as u64) as usize
 }
 
 // Whether every flag within the count is 0 or 1.
+#[tactic(auto, unfolding(crate::specs::Records::has_flags), using(crate::proofs::Lists::are_flat_front))]
 pub(crate) fn has_flags(b: FlatBoard) -> bool
     ensures { result ≡ has_flags b }
 {
-    let component = b.component;
-    are_flat_components(component, within_count(b.components))
+    are_flat_components(&b.component[..within_count(b.components)])
 }
 
+#[tactic(auto, unfolding(crate::specs::Records::board_in))]
 pub(crate) fn board(b: FlatBoard) -> Board
     ensures { result ≡ board_in b }
 {
-    let component = b.component;
     Board {
         components: b.components,
         cpus: b.cpus,
         first: b.first,
         last: b.last,
-        component: components(component),
+        component: components(&b.component),
     }
 }
 
 // A record whose board is already there as numbers.
+#[tactic(auto, unfolding(crate::specs::Records::flat_with))]
 pub(crate) fn flat_with(b: FlatBoard, rec: Record) -> FlatRecord
     ensures { result ≡ flat_with b rec }
 {
-    let pending = rec.pending;
+    // named first: the check takes an array's field into a struct only so
     let version = rec.version;
-    let state = rec.state;
-    let on = rec.on;
-    let held = rec.held;
     let entry = rec.entry;
     let context = rec.context;
     FlatRecord {
         board: b,
-        pending: flat_flags(pending),
-        version: version,
-        state: board_record::place_of(state) as u64,
-        subject: board_record::subject_number(state),
-        on: on,
-        held: held,
-        entry: entry,
-        context: context,
-        informed: digit(rec.informed) as u64,
+        pending: flat_flags(rec.pending),
+        version,
+        state: board_record::place_of(rec.state) as u64,
+        subject: board_record::subject_number(rec.state),
+        on: rec.on,
+        held: rec.held,
+        entry,
+        context,
+        informed: u64::from(rec.informed),
     }
 }
 
 pub(crate) fn flat(rec: Record) -> FlatRecord
     ensures { result ≡ flat_of rec }
 {
-    let b = rec.board;
-    flat_with(flat_board(b), rec)
+    flat_with(flat_board(rec.board), rec)
 }
 
+#[tactic(auto, unfolding(crate::specs::Records::record_in))]
 pub(crate) fn record(f: FlatRecord) -> Record
     ensures { result ≡ record_in f }
 {
-    let b = f.board;
-    let pending = f.pending;
+    // named first: the check takes an array's field into a struct only so
     let version = f.version;
-    let on = f.on;
-    let held = f.held;
     let entry = f.entry;
     let context = f.context;
     Record {
-        board: board(b),
-        pending: flags(pending),
-        version: version,
+        board: board(f.board),
+        pending: flags(f.pending),
+        version,
         state: state(f.state, f.subject),
-        on: on,
-        held: held,
-        entry: entry,
-        context: context,
+        on: f.on,
+        held: f.held,
+        entry,
+        context,
         informed: f.informed == 1,
     }
 }
 
 // Every flag is 0 or 1, and the state is one.
+#[tactic(auto, unfolding(crate::specs::Records::is_flat), using(crate::proofs::Lists::are_flat_whole, crate::proofs::Lists::are_flags_whole))]
 pub(crate) fn is_flat(f: FlatRecord) -> bool
     ensures { result ≡ is_flat f }
 {
-    let b = f.board;
-    let component = b.component;
-    let pending = f.pending;
-    if are_flat_components(component, MOST_COMPONENTS) {
-        if are_flags(pending) {
-            if is_state(f.state, f.subject) {
-                return f.informed <= 1;
-            }
-        }
-    }
-    false
+    are_flat_components(&f.board.component)
+        && are_flags(&f.pending)
+        && is_state(f.state, f.subject)
+        && f.informed <= 1
 }
 
 // What comes with a refusal.
+#[tactic(auto, unfolding(crate::specs::Records::zero_record))]
 pub(crate) fn zeros() -> FlatRecord
     ensures { result ≡ zero_record }
 {

@@ -1,5 +1,6 @@
 -- By induction on the first digits: what digits write is what the first of them write, moved up by the rest, and what the rest write.
 -- Assumes nothing.
+use Rattle.std.specs.Prelude.{None, Some}
 use Prim.Native.Nat.{ℕ, ◌+◌, ◌-◌, ◌*◌, ◌/◌, ◌^◌, ◌≤◌, ◌<◌}
 use Prim.Native.Char.{Char, code}
 use mathlib.Core.Path.{◌≡◌, ap}
@@ -17,7 +18,6 @@ use Rattle.basics.specs.Choice.{refuted, both}
 use Rattle.basics.specs.Every.{all_below, all-fails}
 use Rattle.basics.specs.Order.{lt-cases}
 use Rattle.given.specs.Numerals.{is_from, digit_of, is_digit_at, value_of, is_number, written_in, is_hex}
-use Rattle.given.specs.declared.Numeral.TheVariants.{Number, NotOne}
 
 inside : (first last : Char) (b : ℕ) → code first ≤ b → b ≤ code last → is_from first last b ≡ true
 inside first last b l u = rw (le-leb (code first) b l, le-leb b (code last) u)
@@ -70,19 +70,19 @@ module _ (base : ℕ) where
         omega arith
 
     -- what a word writes: no number where it is empty, a byte is no digit, or the number is too large
-    pub of_none : length s ≡ 0 → NotOne ≡ written_in base s
+    pub of_none : length s ≡ 0 → None ≡ written_in base s
     unfolding written_in is_number
     of_none e = rw e
 
-    pub of-no-digit : (i : ℕ) → i < length s → base ≤ digit_of (get_or s i 0) → NotOne ≡ written_in base s
+    pub of-no-digit : (i : ℕ) → i < length s → base ≤ digit_of (get_or s i 0) → None ≡ written_in base s
     unfolding written_in is_number
     of-no-digit i l h = rw (← all-fails (length s) (is_digit_at base s) i l (le-ltb _ _ h), and-false)
 
-    pub of-too-large : 2 ^ 64 ≤ value_of base s → NotOne ≡ written_in base s
+    pub of-too-large : 2 ^ 64 ≤ value_of base s → None ≡ written_in base s
     unfolding written_in is_number
     of-too-large h = rw (le-ltb _ _ h, and-false)
 
-    pub of_number : (i v : ℕ) → 0 < length s → i ≡ length s → v ≡ value_of base (take i s) → v < 2 ^ 64 → all_below i (is_digit_at base s) ≡ true → Number v ≡ written_in base s
+    pub of_number : (i v : ℕ) → 0 < length s → i ≡ length s → v ≡ value_of base (take i s) → v < 2 ^ 64 → all_below i (is_digit_at base s) ≡ true → Some v ≡ written_in base s
     unfolding written_in is_number
     of_number i v l e p h a =
         let w : v ≡ value_of base s = rw (e, take-length) at p in
@@ -102,3 +102,8 @@ unfolding is_hex
 hex-long word e =
     let x = eqb-true (get_or word 1 0) (code "x") (both (eqb (get_or word 0 0) (code "0")) (eqb (get_or word 1 0) (code "x")) e).1 in
     lt-cases (length word) 2 (λ l. absurd (omega (arith, get_or-eq_default word 0 {n = 1} (omega arith)))) (λ l. l)
+
+-- a shorter word does not open so
+pub short : (word : List ℕ) → length word < 2 → is_hex word ≡ false
+unfolding is_hex
+short word h = rw (get_or-eq_default word 0 {n = 1} (omega arith), and-false)

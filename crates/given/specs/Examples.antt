@@ -1,20 +1,18 @@
 -- Words, and the numbers that they say: one claim over one list. Assumes nothing.
-use Rattle.std.specs.Prelude.{ℕ, ◌-◌, ◌^◌, ◌≡◌, refl, Bool, true, false, List, [], ◌∷◌, eqb}
+use Rattle.std.specs.Prelude.{ℕ, ◌-◌, ◌^◌, ◌≡◌, refl, Bool, true, false, List, [], ◌∷◌, eqb, None, Option, Some}
 use Prim.Native.Char.{code}
 use Prim.Native.String.{String, len, char_at}
 use Rattle.basics.specs.Every.{all_below, all_hold}
 use Rattle.basics.specs.Places.{firsts}
 use Rattle.given.specs.Numerals.{digit_of, value_of, is_number, written_in, is_hex, numeral_of}
-use Rattle.given.specs.declared.Numeral.{Numeral}
-use Rattle.given.specs.declared.Numeral.TheVariants.{Number, NotOne}
 
-abbrev is_this : ℕ → Numeral → Bool
-is_this n (Number m) = eqb m n
-is_this n NotOne = false
+abbrev is_this : ℕ → Option ℕ → Bool
+is_this n (Some m) = eqb m n
+is_this n None = false
 
-abbrev is_none : Numeral → Bool
-is_none (Number m) = false
-is_none NotOne = true
+abbrev is_none : Option ℕ → Bool
+is_none (Some m) = false
+is_none None = true
 
 -- a text's bytes, in ASCII
 abbrev bytes : String → List ℕ

@@ -1,10 +1,8 @@
 -- The number that a word says. Assumes nothing.
-use Rattle.std.specs.Prelude.{ℕ, ◌+◌, ◌-◌, ◌*◌, ◌^◌, Bool, ◌&&◌, List, [], ◌∷◌, eqb, leb, ltb, length, get_or, drop}
+use Rattle.std.specs.Prelude.{ℕ, ◌+◌, ◌-◌, ◌*◌, ◌^◌, Bool, ◌&&◌, List, [], ◌∷◌, eqb, leb, ltb, length, get_or, drop, None, Option, Some}
 use Prim.Native.Char.{Char, code}
 use Rattle.basics.specs.Choice.{pick}
 use Rattle.basics.specs.Every.{all_below}
-use Rattle.given.specs.declared.Numeral.{Numeral}
-use Rattle.given.specs.declared.Numeral.TheVariants.{Number, NotOne}
 
 -- a byte is one of the characters from the first to the last
 abbrev pub is_from : Char → Char → ℕ → Bool
@@ -30,13 +28,13 @@ value_of base (b ∷ s) = digit_of b * base ^ length s + value_of base s
 unfoldable pub is_number : ℕ → List ℕ → Bool
 is_number base s = ltb 0 (length s) && all_below (length s) (is_digit_at base s) && ltb (value_of base s) (2 ^ 64)
 
-unfoldable pub written_in : ℕ → List ℕ → Numeral
-written_in base s = pick (is_number base s) (Number (value_of base s)) NotOne
+unfoldable pub written_in : ℕ → List ℕ → Option ℕ
+written_in base s = pick (is_number base s) (Some (value_of base s)) None
 
 -- a word opens with `0x`
 unfoldable pub is_hex : List ℕ → Bool
 is_hex word = eqb (get_or word 0 0) (code "0") && eqb (get_or word 1 0) (code "x")
 
 -- what a word says: after `0x` in base 16, else in base 10
-unfoldable pub numeral_of : List ℕ → Numeral
+unfoldable pub numeral_of : List ℕ → Option ℕ
 numeral_of word = pick (is_hex word) (written_in 16 (drop 2 word)) (written_in 10 word)

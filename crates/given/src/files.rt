@@ -4,7 +4,7 @@ ghost use Rattle.std.specs.Bool.{OnTrue};
 ghost use Rattle.std.specs.Io.KnownBytes.{Consumes, IsAtEnd};
 ghost use Rattle.given.specs.Files.{HasRead, IsIn, IsPrefixLen};
 
-use crate::{File, say};
+use crate::say;
 use std::env::FillError;
 use std::io::Read;
 use std::rt::{Env, Files};
@@ -59,16 +59,14 @@ fn is_at_end<R: Read>(file: &mut R) -> bool
 }
 
 // Fills a buffer from an open file, or another input, as far as that goes. One that breaks off is unread.
-pub fn fill<R: Read>(file: &mut R, buf: &mut [u8]) -> File
+pub fn fill<R: Read>(file: &mut R, buf: &mut [u8]) -> Option<usize>
     ensures within { IsIn result buf.new }
     ensures reads { HasRead (R.remaining file.old) result buf.new }
 {
     let n = read_full(file, buf);
-    if n == buf.len() {
-        return File::Bytes(n);
+    if n == buf.len() || is_at_end(file) {
+        Some(n)
+    } else {
+        None
     }
-    if is_at_end(file) {
-        return File::Bytes(n);
-    }
-    File::Unread
 }

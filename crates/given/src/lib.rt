@@ -24,43 +24,34 @@ const HEX: u64 = 16;
 
 const MARK: usize = 2;
 
-// How many bytes were read, or that the file can't be.
-#[derive(Clone, Copy)]
-pub enum File {
-    Bytes(usize),
-    Unread,
-}
-
-// The number that a word says, or that it says none.
-#[derive(Clone, Copy)]
-pub enum Numeral {
-    Number(u64),
-    NotOne,
-}
-
 // What went wrong, which is no answer. Where that can't be written either, there is nothing more to say.
 fn say(stderr: &impl Print, s: &[u8]) {
     let _ = stderr.write_all(s);
 }
 
 // Reads the file that argument i names; says so where it can't be.
-pub fn read_file<R: Env + Files>(rt: &R, stderr: &impl Print, i: usize, buf: &mut [u8]) -> File
+pub fn read_file<R: Env + Files>(
+    rt: &R,
+    stderr: &impl Print,
+    i: usize,
+    buf: &mut [u8],
+) -> Option<usize>
     ensures { IsIn result buf.new }
 {
     let mut path = [0u8; PATH_ROOM];
     let n = files::name(rt, i, &mut path);
     let read = match files::open(rt, &path[..n]) {
         Some(mut file) => fill(&mut file, buf),
-        None => File::Unread,
+        None => None,
     };
-    if let File::Unread = read {
+    if let None = read {
         files::say_unread(stderr, &path[..n]);
     }
     read
 }
 
 // The number that a word says: in hex digits after `0x`, else in decimal ones.
-fn number_in(word: &[u8]) -> Numeral
+fn number_in(word: &[u8]) -> Option<u64>
     ensures { result ≡ numeral_of word.now }
 {
     if digits::is_hex(word) {
@@ -71,11 +62,11 @@ fn number_in(word: &[u8]) -> Numeral
 }
 
 // The number that a word says; says so, with the word, where it is none.
-pub fn read_number(stderr: &impl Print, word: &[u8]) -> Numeral
+pub fn read_number(stderr: &impl Print, word: &[u8]) -> Option<u64>
     ensures { result ≡ numeral_of word.now }
 {
     let numeral = number_in(word);
-    if let Numeral::NotOne = numeral {
+    if let None = numeral {
         say(stderr, b"not a number: ");
         say(stderr, word);
         say(stderr, b"\n");

@@ -3,51 +3,44 @@
 
 mod words;
 
-ghost use Rattle.std.specs.Prelude.{◌≡◌, IfOk};
+ghost use Rattle.std.specs.Prelude.{◌≡◌, IfOk, Err, Ok, Some};
 ghost use Rattle.deliveries.specs.Lead.{is_open};
 ghost use Rattle.deliveries.specs.Taken.{taken_of, closing_of};
 ghost use Rattle.deliveries.specs.Shown.{delivered};
-ghost use Rattle.deliveries.specs.declared.Given.TheVariants.{Record, Refused};
-ghost use Rattle.deliveries.specs.declared.Ending.TheVariants as ending;
 
-use deliveries::{Ending, Given, Lead, Refusal, Standing};
+use deliveries::{Lead, Refusal, Standing};
 use log_record::LogRecord;
 use std::io;
 use std::io::Read;
-use words::{number, text};
 
 // The most bytes that one read takes; it waits for none once there are some.
 const ROOM: usize = 65536;
 
 // The line of a record that a delivery gives: its place is the number of those before it.
 fn line(rt: &impl Print, lead: Lead, delivery: &[u8], r: LogRecord) -> io::Result<()>
-    requires { (taken_of lead delivery.now).given ≡ Record r }
+    requires { (taken_of lead delivery.now).given ≡ Ok (Some r) }
 {
-    number(rt, lead.records as u64)?;
-    text(rt, b" ")?;
-    words::kind(rt, r.kind)?;
-    text(rt, b" ")?;
-    number(rt, r.cpu)?;
-    text(rt, b" ")?;
-    number(rt, r.code)?;
-    text(rt, b" ")?;
-    words::outcome(rt, r.outcome)?;
-    words::words(rt, r)?;
-    text(rt, b"\n")
+    let kind = words::kind(r.kind);
+    let outcome = words::outcome(r.outcome);
+    print!(rt; "{} {kind} {} {} {outcome}", lead.records, r.cpu, r.code)?;
+    println!(rt;
+        " {:#x} {:#x} {:#x} {:#x} {:#x} {:#x}",
+        r.w1, r.w2, r.w3, r.w4, r.w5, r.w6
+    )
 }
 
 // The words of a refusal, whether a delivery or the end of input brought it.
 fn refusal(rt: &impl Print, x: Refusal) -> io::Result<()> {
-    text(rt, b"refused ")?;
-    number(rt, deliveries::number(x))?;
-    text(rt, b" at ")?;
-    number(rt, deliveries::place(x) as u64)?;
-    text(rt, b"\n")
+    println!(rt;
+        "refused {} at {}",
+        deliveries::number(x),
+        deliveries::place(x)
+    )
 }
 
 // The line of a delivery that is refused.
 fn refused(rt: &impl Print, lead: Lead, delivery: &[u8], x: Refusal) -> io::Result<()>
-    requires { (taken_of lead delivery.now).given ≡ Refused x }
+    requires { (taken_of lead delivery.now).given ≡ Err x }
 {
     refusal(rt, x)
 }
@@ -57,21 +50,20 @@ fn deliver(rt: &impl Print, first: Lead, delivery: &[u8]) -> io::Result<Lead>
     ensures { IfOk result (λ lead. lead ≡ (delivered first delivery.now).lead) }
 {
     let mut lead = first;
-    let mut at: usize = 0;
-    while at < delivery.len() {
-        let taken = deliveries::take(lead, &delivery[at..]);
-        let given = taken.given;
+    let mut rest = delivery;
+    while !rest.is_empty() {
+        let taken = deliveries::take(lead, rest);
         let next = taken.lead;
-        match given {
-            Given::Nothing => return Ok(next),
-            Given::Refused(x) => {
-                refused(rt, lead, &delivery[at..], x)?;
+        match taken.given {
+            Ok(None) => return Ok(next),
+            Err(x) => {
+                refused(rt, lead, rest, x)?;
                 return Ok(next);
             }
-            Given::Record(r) => {
-                line(rt, lead, &delivery[at..], r)?;
-                at += taken.used;
+            Ok(Some(r)) => {
+                line(rt, lead, rest, r)?;
                 lead = next;
+                rest = &rest[taken.used..];
             }
         }
     }
@@ -80,46 +72,34 @@ fn deliver(rt: &impl Print, first: Lead, delivery: &[u8]) -> io::Result<Lead>
 
 // The line of a log that ends well.
 fn closed(rt: &impl Print, lead: Lead, n: usize) -> io::Result<()>
-    requires { (closing_of lead).ending ≡ ending.Records n }
+    requires { (closing_of lead).ending ≡ Ok n }
 {
-    text(rt, b"closed ")?;
-    number(rt, n as u64)?;
-    text(rt, b"\n")
+    println!(rt; "closed {n}")
 }
 
 // The line of a log that ends in the middle of a record.
 fn unended(rt: &impl Print, lead: Lead, x: Refusal) -> io::Result<()>
-    requires { (closing_of lead).ending ≡ ending.Refused x }
+    requires { (closing_of lead).ending ≡ Err x }
 {
     refusal(rt, x)
 }
 
 // The last line, where input ends.
 fn end(rt: &impl Print, lead: Lead) -> io::Result<()> {
-    let closing = deliveries::close(lead);
-    let ending = closing.ending;
-    match ending {
-        Ending::Records(n) => closed(rt, lead, n),
-        Ending::Refused(x) => unended(rt, lead, x),
+    match deliveries::close(lead).ending {
+        Ok(n) => closed(rt, lead, n),
+        Err(x) => unended(rt, lead, x),
     }
 }
 
 fn is_open(lead: Lead) -> bool
     ensures { result ≡ is_open lead.standing }
 {
-    let standing = lead.standing;
-    match standing {
-        Standing::Open => true,
-        Standing::Closed => false,
-        Standing::Refused(_) => false,
-    }
+    matches!(lead.standing, Standing::Open)
 }
 
 fn main(rt: HostRuntime) -> io::Result<()> {
-    text(
-        &rt,
-        b"place kind cpu code outcome word1 word2 word3 word4 word5 word6\n",
-    )?;
+    println!(rt; "place kind cpu code outcome word1 word2 word3 word4 word5 word6")?;
     let mut buf = [0u8; ROOM];
     let mut input = rt.stdin();
     let mut lead = deliveries::open();

@@ -1,6 +1,5 @@
 pub mod Story
 pub mod Starts
-pub mod Look
 pub mod Numbers
 pub mod Phrases
 pub mod Telling

@@ -6,6 +6,7 @@ use crate::{Story, telling};
 use board::Board;
 use codes::{ACTIVATE, Call};
 
+#[tactic(auto, unfolding(crate::specs::Starts::is_activate))]
 fn is_activate(call: Call) -> bool
     ensures { result ≡ is_activate call }
 {
@@ -13,18 +14,11 @@ fn is_activate(call: Call) -> bool
 }
 
 // The CPU exists, is powered and is not held.
+#[tactic(auto, unfolding(crate::specs::Starts::accepted_from))]
 fn accepted_from(b: Board, s: Story, cpu: u64) -> bool
     ensures { result ≡ accepted_from b s cpu }
 {
-    if cpu >= b.cpus {
-        return false;
-    }
-    if cpuset::has(s.powered, cpu) {
-        let held = s.held;
-        let every = telling::every_held(held);
-        return !cpuset::has(every, cpu);
-    }
-    false
+    cpu < b.cpus && cpuset::has(s.powered, cpu) && !cpuset::has(telling::every_held(s.held), cpu)
 }
 
 // X1 to X3 are those of an ACTIVATE for component c, without skip.
@@ -32,43 +26,29 @@ fn accepted_from(b: Board, s: Story, cpu: u64) -> bool
 fn fields_valid(b: Board, call: Call, c: u64) -> bool
     ensures { result ≡ fields_valid b call c }
 {
-    if c >= b.components {
-        return false;
-    }
-    if call.x1 != c {
-        return false;
-    }
-    if call.x2 != 0 {
-        return false;
-    }
-    board::is_entry_right(b, c, call.x3)
+    c < b.components && call.x1 == c && call.x2 == 0 && board::is_entry_right(b, c, call.x3)
 }
 
 // Nobody skipped the rendezvous, and all other powered CPUs came in that time: none is beyond the sets.
+#[tactic(auto, unfolding(crate::specs::Starts::others_gathered))]
 fn all_gathered(s: Story, cpu: u64) -> bool
     ensures { result ≡ (not s.alone && others_gathered s cpu) }
 {
-    if s.alone {
-        return false;
-    }
-    if s.beyond {
-        return false;
-    }
-    let gathered = s.gathered;
-    let others = cpuset::without(s.powered, cpu);
-    cpuset::within(others, telling::every_held(gathered))
+    !s.alone
+        && !s.beyond
+        && cpuset::within(
+            cpuset::without(s.powered, cpu),
+            telling::every_held(s.gathered),
+        )
 }
 
 // All that demand 3 asks for but that component c is prepared.
+#[tactic(auto, unfolding(crate::specs::Starts::starts_for))]
 pub(crate) fn starts_for(b: Board, s: Story, call: Call, c: u64) -> bool
     ensures { result ≡ starts_for b s call c }
 {
-    if is_activate(call) {
-        if accepted_from(b, s, call.cpu) {
-            if fields_valid(b, call, c) {
-                return all_gathered(s, call.cpu);
-            }
-        }
-    }
-    false
+    is_activate(call)
+        && accepted_from(b, s, call.cpu)
+        && fields_valid(b, call, c)
+        && all_gathered(s, call.cpu)
 }

@@ -1,5 +1,6 @@
 -- The reason and the agent's answer agree: on the tests that `try_activate_of` and the rows share, by cases (`tried`); then state by
 -- state (`activated`); and of an accepted call, since the agent's rules lead to ACTIVATE's (`accepted-fits`). Assumes nothing.
+use Rattle.std.specs.Prelude.{None, Ok, Option, Some}
 use Prim.Native.Nat.{ℕ}
 use mathlib.Core.Path.{◌≡◌, refl, sym, ap, subst, ◌∙◌}
 use mathlib.Core.Bool.{Bool, true, false, not, ◌&&◌}
@@ -27,9 +28,6 @@ use Rattle.rules.specs.declared.Refusal.TheVariants.{NotWellFormed, TableShort, 
 use Rattle.agent.specs.Perform.{refused_of, accepted_of, joined_of, perform_of}
 use Rattle.agent.specs.Step.{step_of}
 use Rattle.agent.specs.declared.Answer.{Answer}
-use Rattle.agent.specs.declared.Outcome.TheVariants.{Accepted}
-use Rattle.reader.specs.declared.Started.{Started}
-use Rattle.reader.specs.declared.Started.TheVariants.{Nothing, Of}
 use Rattle.trace.specs.Run.{started_in}
 use Rattle.reason.specs.Reason.{call_of, missing_of, state_rows, ask_rows, skip_rows, answer_rows, join_rows, reason_of}
 use Rattle.reason.specs.Explained.{outcome_at}
@@ -39,13 +37,13 @@ use Rattle.reason.specs.declared.Reason.{Reason}
 use Rattle.reason.specs.declared.Reason.TheVariants.{HalfPrepared, OtherComponent, OtherFlags, NotOptional, SkipInGathering, NoSkip, BadEntry, BeingActivated, Skipped, Held, AllPresent}
 
 -- only "all present" is the start of a rendezvous activation
-abbrev pub started_by : Reason → ℕ → Started
-started_by x c = pick (eqb (number_of x) (number_of AllPresent)) (Of c) Nothing
+abbrev pub started_by : Reason → ℕ → Option ℕ
+started_by x c = pick (eqb (number_of x) (number_of AllPresent)) (Some c) None
 
 module _ (r : Record) (a : Activate) where
   -- a move does what a reason names
   pub record Fits (m : Move) (x : Reason) : Type 0 where
-    pub outcome : (perform_of r m).outcome ≡ Accepted (answer_for x)
+    pub outcome : (perform_of r m).outcome ≡ Ok (answer_for x)
     pub starts : started_in (perform_of r m).outcome (perform_of r m).rec.state ≡ started_by x a.x1
 
   -- on the tests that the rules and the rows share
@@ -78,7 +76,7 @@ module _ (r : Record) (a : Activate) where
   by_tests true false false optional gathering true entry alone all c s first joins q = record { outcome = refl; starts = refl }
   by_tests true false false optional gathering false false alone all c s first joins q = record { outcome = refl; starts = refl }
   by_tests true false false optional gathering false true true all c s first joins q = record { outcome = refl; starts = refl }
-  by_tests true false false optional gathering false true false true c s first joins q = record { outcome = refl; starts = ap Of q }
+  by_tests true false false optional gathering false true false true c s first joins q = record { outcome = refl; starts = ap Some q }
   by_tests true false false optional gathering false true false false c s first joins q = record { outcome = refl; starts = refl }
 
   tried : Fits (try_activate_of r (call_of a)) (first_in AllPresent (ask_rows r a ++ (skip_rows r a ++ (answer_rows r a ++ join_rows r a))))
@@ -89,7 +87,7 @@ module _ (r : Record) (a : Activate) where
       (subject_number r.state) (missing_of r a.cpu) (arrival_of (call_of a) false) (arrival_of (call_of a) (may_reset_at r.board a.x1)) refl
 
   -- in each state; in together no caller exists
-  activated : (s : State) (w : Answer) → (perform_of r (activate_by (rule_of s).activate r (call_of a))).outcome ≡ Accepted w
+  activated : (s : State) (w : Answer) → (perform_of r (activate_by (rule_of s).activate r (call_of a))).outcome ≡ Ok w
       → Fits (activate_by (rule_of s).activate r (call_of a)) (first_in AllPresent (state_rows s ++ (ask_rows r a ++ (skip_rows r a ++ (answer_rows r a ++ join_rows r a)))))
   unfolding returned accepted_of refused_of
   activated Idle w h = record { outcome = refl; starts = refl }
@@ -105,7 +103,7 @@ module _ (r : Record) (a : Activate) where
 
   -- an accepted call's rules are its function's
   let-in : (stands short-1 short-2 absent on held : Bool) (m : Move) (w : Answer)
-      → (perform_of r (pick stands (pick short-1 (Refuse TableShort) (pick short-2 (Refuse TableShort) (pick absent (Refuse NoSuchCpu) (pick on (pick held (Refuse CpuHeld) m) (Refuse CpuOff))))) (Refuse NotWellFormed))).outcome ≡ Accepted w
+      → (perform_of r (pick stands (pick short-1 (Refuse TableShort) (pick short-2 (Refuse TableShort) (pick absent (Refuse NoSuchCpu) (pick on (pick held (Refuse CpuHeld) m) (Refuse CpuOff))))) (Refuse NotWellFormed))).outcome ≡ Ok w
       → pick stands (pick short-1 (Refuse TableShort) (pick short-2 (Refuse TableShort) (pick absent (Refuse NoSuchCpu) (pick on (pick held (Refuse CpuHeld) m) (Refuse CpuOff))))) (Refuse NotWellFormed) ≡ m
   unfolding refused_of
   let-in false short-1 short-2 absent on held m w h = never cc
@@ -116,12 +114,12 @@ module _ (r : Record) (a : Activate) where
   let-in true false false false true true m w h = never cc
   let-in true false false false true false m w h = refl
 
-  decided : (w : Answer) → outcome_at r a ≡ Accepted w → decide_of r (event.Call (call_of a)) most_cpus most_cpus ≡ activate_of r (call_of a)
+  decided : (w : Answer) → outcome_at r a ≡ Ok w → decide_of r (event.Call (call_of a)) most_cpus most_cpus ≡ activate_of r (call_of a)
   unfolding step_of decide_of call_rules answer_of decode_of call_of
   decided w h =
       let-in (well_formed r) (ltb most_cpus r.board.cpus) (ltb most_cpus r.board.cpus) (leb r.board.cpus a.cpu) (has_of r.on a.cpu) (has_of r.held a.cpu) (activate_of r (call_of a)) w h
 
-  pub accepted-fits : (w : Answer) → outcome_at r a ≡ Accepted w → Fits (decide_of r (event.Call (call_of a)) most_cpus most_cpus) (reason_of r a)
+  pub accepted-fits : (w : Answer) → outcome_at r a ≡ Ok w → Fits (decide_of r (event.Call (call_of a)) most_cpus most_cpus) (reason_of r a)
   unfolding step_of reason_of
   accepted-fits w h =
       let d = decided w h in

@@ -1,5 +1,6 @@
 -- The theorem page (specs/Shown.antt): the rows' reasons are told apart by their numbers (`apart`), the agent's answer is the reason's
 -- (Answered.antt), the missing are told by membership, and of own logs the walk is the run (history's Own.antt). Assumes nothing.
+use Rattle.std.specs.Prelude.{Err, None, Ok, Result, Some}
 use Prim.Native.Nat.{ℕ, ◌<◌, ◌≤◌}
 use mathlib.Core.Path.{◌≡◌, refl, sym, ap, subst, ◌∙◌}
 use mathlib.Core.Bool.{Bool, true, false, not}
@@ -16,7 +17,7 @@ use Rattle.basics.proofs.First.{first-given, first-known}
 use Rattle.cpuset.specs.Set.{has_of, none_of, without_of, less_of, same_of}
 use Rattle.cpuset.specs.Laws.{has-less, set-less, set-without, some-has, without-self, without_other}
 use Rattle.cpuset.specs.declared.CpuSet.{CpuSet}
-use Rattle.board.specs.Packed.{accepted, read_of}
+use Rattle.board.specs.Packed.{read_of}
 use Rattle.board.specs.declared.Board.{Board}
 use Rattle.board_record.specs.WellFormed.{well_formed}
 use Rattle.board_record.specs.declared.Record.{Record}
@@ -31,19 +32,12 @@ use Rattle.rules.proofs.Moves.{number-some}
 use Rattle.agent.specs.Numbers.{refused_with, accepted_with}
 use Rattle.agent.specs.Step.{step_of, stepped}
 use Rattle.agent.specs.declared.Answer.{Answer}
-use Rattle.agent.specs.declared.Outcome.{Outcome}
-use Rattle.agent.specs.declared.Outcome.TheVariants.{Refused, Accepted}
 use Rattle.reader.specs.Starts.{starts_at, powered_at, held_at}
-use Rattle.reader.specs.declared.Answer.TheVariants as answer
-use Rattle.reader.specs.declared.Cpus.TheVariants as cpus
-use Rattle.reader.specs.declared.Started.TheVariants.{Nothing, Of}
 use Rattle.trace.specs.Run.{run, log_of, AllTyped, started_in, agent_starts}
-use Rattle.trace.specs.Steady.{Some}
+use Rattle.trace.specs.Steady.{SomeCpu}
 use Rattle.trace.proofs.Agreed.{all-present}
 use Rattle.trace.proofs.Demand.{demand-3}
 use Rattle.history.specs.Walk.{walked_of}
-use Rattle.history.specs.declared.Ended.{Ended}
-use Rattle.history.specs.declared.Ended.TheVariants.{Agrees, Departs, BoardRefused, LogRefused}
 use Rattle.history.specs.declared.Walked.{Walked}
 use Rattle.history.proofs.Kept.{walked-kept}
 use Rattle.history.proofs.Own.{own-walked}
@@ -52,11 +46,14 @@ use Rattle.reason.specs.Explained.{called_by, outcome_at, called_of, explained_b
 use Rattle.reason.specs.Numbers.{number_of, answer_for}
 use Rattle.reason.specs.Shown.{IsAsked, past, IsMissing, Shown, Own}
 use Rattle.reason.specs.declared.Activate.{Activate}
-use Rattle.reason.specs.declared.Explained.TheVariants.{Because, CallRefused}
 use Rattle.reason.specs.declared.Reason.{Reason}
 use Rattle.reason.specs.declared.Reason.TheVariants.{Held, AllPresent}
 use Rattle.reason.proofs.Answered.{started_by, accepted-fits}
 use Rattle.reason.proofs.Numbers.{outcome-number}
+use Rattle.reader.specs.declared.Refusal.TheVariants as refusal
+use Rattle.history.specs.declared.Stop.TheVariants as stop
+use Rattle.reason.specs.declared.Unexplained.TheVariants as unexplained
+use Rattle.history.specs.declared.Stop.{Stop}
 
 -- ---- the reasons of two rules are never the same: their numbers differ, by one test over all pairs of rows
 key_of : Rule → ℕ
@@ -95,44 +92,44 @@ module _ (r : Record) (a : Activate) where
   rule-of i l e = first-known past number_of AllPresent rows apart present_row (omega arith) refl i l e
 
   -- ---- what is given where a reason is
-  record Given (e : Ended) (x : Reason) : Type 0 where
-    agrees : e ≡ Agrees
+  record Given (e : Result Unit Stop) (x : Reason) : Type 0 where
+    agrees : e ≡ (Ok tt)
     answer : Answer
-    accepted : outcome_at r a ≡ Accepted answer
+    accepted : outcome_at r a ≡ Ok answer
     reason : reason_of r a ≡ x
 
-  given_by : (x : Reason) (o : Outcome) → outcome_at r a ≡ o → called_by o (reason_of r a) ≡ Because x → Given Agrees x
-  given_by x (Refused y) q h = never cc
-  given_by x (Accepted w) q h = record { agrees = refl; answer = w; accepted = q; reason = cc }
+  given_by : (x : Reason) (o : Result Answer Refusal) → outcome_at r a ≡ o → called_by o (reason_of r a) ≡ Ok x → Given (Ok tt) x
+  given_by x (Err y) q h = never cc
+  given_by x (Ok w) q h = record { agrees = refl; answer = w; accepted = q; reason = cc }
 
-  given : (x : Reason) (e : Ended) → explained_by e r a ≡ Because x → Given e x
+  given : (x : Reason) (e : Result Unit Stop) → explained_by e r a ≡ Ok x → Given e x
   unfolding called_of
-  given x Agrees h = given_by x (outcome_at r a) refl h
-  given x (Departs d) h = never cc
-  given x (BoardRefused y) h = never cc
-  given x (LogRefused f) h = never cc
+  given x (Ok tt) h = given_by x (outcome_at r a) refl h
+  given x (Err (stop.Departs d)) h = never cc
+  given x (Err (stop.Board y)) h = never cc
+  given x (Err (stop.Log f)) h = never cc
 
-  refused-by : (x : Refusal) (o : Outcome) → outcome_at r a ≡ o → called_by o (reason_of r a) ≡ CallRefused x → outcome_at r a ≡ Refused x
-  refused-by x (Refused y) q h = q ∙ cc
-  refused-by x (Accepted w) q h = never cc
+  refused-by : (x : Refusal) (o : Result Answer Refusal) → outcome_at r a ≡ o → called_by o (reason_of r a) ≡ Err (unexplained.Call x) → outcome_at r a ≡ Err x
+  refused-by x (Err y) q h = q ∙ cc
+  refused-by x (Ok w) q h = never cc
 
-  refused : (x : Refusal) (e : Ended) → explained_by e r a ≡ CallRefused x → outcome_at r a ≡ Refused x
+  refused : (x : Refusal) (e : Result Unit Stop) → explained_by e r a ≡ Err (unexplained.Call x) → outcome_at r a ≡ Err x
   unfolding called_of
-  refused x Agrees h = refused-by x (outcome_at r a) refl h
-  refused x (Departs d) h = never cc
-  refused x (BoardRefused y) h = never cc
-  refused x (LogRefused f) h = never cc
+  refused x (Ok tt) h = refused-by x (outcome_at r a) refl h
+  refused x (Err (stop.Departs d)) h = never cc
+  refused x (Err (stop.Board y)) h = never cc
+  refused x (Err (stop.Log f)) h = never cc
 
   -- and it is given where no refusal is
-  taken : well_formed r ≡ true → first_of (rows_for r (event.Call (call_of a))) ≡ 0 → (o : Outcome) → outcome_at r a ≡ o → (x : Reason) → called_by o x ≡ Because x
+  taken : well_formed r ≡ true → first_of (rows_for r (event.Call (call_of a))) ≡ 0 → (o : Result Answer Refusal) → outcome_at r a ≡ o → (x : Reason) → called_by o x ≡ Ok x
   unfolding refused_with
-  taken w z (Refused y) q x = absurd (eqb-false (call_number y) 0 (number-some y) (outcome-number r w a (Refused y) q ∙ z))
-  taken w z (Accepted t) q x = refl
+  taken w z (Err y) q x = absurd (eqb-false (call_number y) 0 (number-some y) (outcome-number r w a (Err y) q ∙ z))
+  taken w z (Ok t) q x = refl
 
   -- ---- the agent's answer
-  answered : (x : Reason) (e : Ended) → Given e x → outcome_at r a ≡ Accepted (answer_for x)
+  answered : (x : Reason) (e : Result Unit Stop) → Given e x → outcome_at r a ≡ Ok (answer_for x)
   unfolding step_of
-  answered x e g = (accepted-fits r a g.answer g.accepted).outcome ∙ ap (λ (y : Reason). Accepted (answer_for y)) g.reason
+  answered x e g = (accepted-fits r a g.answer g.accepted).outcome ∙ ap (λ (y : Reason). Ok (answer_for y)) g.reason
 
   -- ---- the missing
   held-rule : (s : CpuSet) → reason_of r a ≡ Held s → IsFirst past rows held_row
@@ -165,7 +162,7 @@ module _ (r : Record) (a : Activate) where
       go false true q = refl
       go false false q = absurd (omega (arith, q))
 
-  somebody : well_formed r ≡ true → has_of r.on a.cpu ≡ true → (s : CpuSet) → reason_of r a ≡ Held s → Some (λ cpu. has_of s cpu ≡ true)
+  somebody : well_formed r ≡ true → has_of r.on a.cpu ≡ true → (s : CpuSet) → reason_of r a ≡ Held s → SomeCpu (λ cpu. has_of s cpu ≡ true)
   unfolding missing_of
   somebody w p s q =
       let on = on-set r (told r w) in
@@ -175,20 +172,20 @@ module _ (r : Record) (a : Activate) where
       record { cpu = m.at; so = ap (λ (t : CpuSet). has_of t m.at) (held-set s q) ∙ m.has }
 
   -- ---- all present: where the agent starts a rendezvous activation, it is of X1, and this is the reason
-  starting : (w : Answer) → outcome_at r a ≡ Accepted w → agent_starts r (call_of a) ≡ started_by (reason_of r a) a.x1
+  starting : (w : Answer) → outcome_at r a ≡ Ok w → agent_starts r (call_of a) ≡ started_by (reason_of r a) a.x1
   unfolding agent_starts step_of
   starting w q = (accepted-fits r a w q).starts
 
-  present-by : (c : ℕ) (t : Bool) → eqb (number_of (reason_of r a)) (number_of AllPresent) ≡ t → pick t (Of a.x1) Nothing ≡ Of c → (reason_of r a ≡ AllPresent) × (c ≡ a.x1)
+  present-by : (c : ℕ) (t : Bool) → eqb (number_of (reason_of r a)) (number_of AllPresent) ≡ t → pick t (Some a.x1) None ≡ Some c → (reason_of r a ≡ AllPresent) × (c ≡ a.x1)
   unfolding reason_of
   present-by c false e q = never cc
   present-by c true e q = (first-given past AllPresent rows present_row (rule-of present_row (omega arith) (eqb-true (number_of (reason_of r a)) (number_of AllPresent) e)), cc)
 
-  started : (c : ℕ) (o : Outcome) → outcome_at r a ≡ o → agent_starts r (call_of a) ≡ Of c → (called_by o (reason_of r a) ≡ Because AllPresent) × (c ≡ a.x1)
+  started : (c : ℕ) (o : Result Answer Refusal) → outcome_at r a ≡ o → agent_starts r (call_of a) ≡ Some c → (called_by o (reason_of r a) ≡ Ok AllPresent) × (c ≡ a.x1)
   unfolding agent_starts
-  started c (Refused x) q s = let n = sym s ∙ ap (λ (y : Outcome). started_in y (stepped r (event.Call (call_of a))).rec.state) q in never cc
-  started c (Accepted w) q s =
-      let p = present-by c (eqb (number_of (reason_of r a)) (number_of AllPresent)) refl (sym (starting w q) ∙ s) in (ap Because p.0, p.1)
+  started c (Err x) q s = let n = sym s ∙ ap (λ (y : Result Answer Refusal). started_in y (stepped r (event.Call (call_of a))).rec.state) q in never cc
+  started c (Ok w) q s =
+      let p = present-by c (eqb (number_of (reason_of r a)) (number_of AllPresent)) refl (sym (starting w q) ∙ s) in (ap Ok p.0, p.1)
 
 -- ---- for any bytes, place and call
 module _ (board log : List ℕ) (place : ℕ) (a : Activate) where
@@ -198,7 +195,7 @@ module _ (board log : List ℕ) (place : ℕ) (a : Activate) where
   abbrev r : Record
   r = w.rec
 
-  gave : (x : Reason) → explained_of board log place a ≡ Because x → Given r a w.ended x
+  gave : (x : Reason) → explained_of board log place a ≡ Ok x → Given r a w.ended x
   unfolding explained_of
   gave x h = given r a x w.ended h
 
@@ -208,19 +205,19 @@ module _ (board log : List ℕ) (place : ℕ) (a : Activate) where
 
     unrefused : first_of (rows_for r (event.Call (call_of a))) ≡ 0
     unfolding accepted_with
-    unrefused = sym (outcome-number r stands a (Accepted g.answer) g.accepted)
+    unrefused = sym (outcome-number r stands a (Ok g.answer) g.accepted)
 
   comes : (i : ℕ) → i < length (rows r a) → Given r a w.ended (get_or (rows r a) i past).0 → IsAsked board log place a × IsFirst past (rows r a) i
   comes i l g = (record { agrees = g.agrees; caller = unrefused _ g }, rule-of r a i l (ap number_of g.reason))
 
-  made : (i : ℕ) → IsAsked board log place a → IsFirst past (rows r a) i → explained_of board log place a ≡ Because (get_or (rows r a) i past).0
+  made : (i : ℕ) → IsAsked board log place a → IsFirst past (rows r a) i → explained_of board log place a ≡ Ok (get_or (rows r a) i past).0
   unfolding explained_of called_of reason_of
   made i q f =
-      ap (λ (e : Ended). explained_by e r a) q.agrees
+      ap (λ (e : Result Unit Stop). explained_by e r a) q.agrees
       ∙ taken r a (walked-kept board log place q.agrees).0 q.caller (outcome_at r a) refl (reason_of r a)
-      ∙ ap Because (first-given past AllPresent (rows r a) i f)
+      ∙ ap Ok (first-given past AllPresent (rows r a) i f)
 
-  not-called : (x : Refusal) → explained_of board log place a ≡ CallRefused x → outcome_at r a ≡ Refused x
+  not-called : (x : Refusal) → explained_of board log place a ≡ Err (unexplained.Call x) → outcome_at r a ≡ Err x
   unfolding explained_of
   not-called x h = refused r a x w.ended h
 
@@ -234,7 +231,7 @@ module _ (board log : List ℕ) (place : ℕ) (a : Activate) where
   }
 
 -- ---- of the agent's own logs
-module _ (description : List ℕ) (b : Board) (reads : read_of description ≡ accepted b) (es more : List Event) (a : Activate)
+module _ (description : List ℕ) (b : Board) (reads : read_of description ≡ Ok b) (es more : List Event) (a : Activate)
     (typed : AllTyped (es ++ more)) (few : length (log_of b (es ++ more)) ≤ most_records) where
   abbrev log : List ℕ
   log = log_bytes (log_of b (es ++ more))
@@ -249,26 +246,26 @@ module _ (description : List ℕ) (b : Board) (reads : read_of description ≡ a
   unfolding explained_of
   own-explained = ap (λ (x : Walked). explained_by x.ended x.rec a) (own-walked description b reads es more typed few)
 
-  own-given : (x : Reason) → explained_of description log place a ≡ Because x → Given own a Agrees x
+  own-given : (x : Reason) → explained_of description log place a ≡ Ok x → Given own a (Ok tt) x
   unfolding called_of
-  own-given x h = given own a x Agrees (sym own-explained ∙ h)
+  own-given x h = given own a x (Ok tt) (sym own-explained ∙ h)
 
-  reader-says : starts_at description log place (call_of a) ≡ answer.Found (agent_starts own (call_of a))
+  reader-says : starts_at description log place (call_of a) ≡ Ok (agent_starts own (call_of a))
   reader-says = (demand-3 description b reads).agree_at es more typed few (call_of a)
 
-  says-start : (c : ℕ) → starts_at description log place (call_of a) ≡ answer.Found (Of c) → agent_starts own (call_of a) ≡ Of c
+  says-start : (c : ℕ) → starts_at description log place (call_of a) ≡ Ok (Some c) → agent_starts own (call_of a) ≡ Some c
   says-start c q = let same = sym reader-says ∙ q in cc
 
-  own-started : (c : ℕ) → starts_at description log place (call_of a) ≡ answer.Found (Of c) → (explained_of description log place a ≡ Because AllPresent) × (c ≡ a.x1)
+  own-started : (c : ℕ) → starts_at description log place (call_of a) ≡ Ok (Some c) → (explained_of description log place a ≡ Ok AllPresent) × (c ≡ a.x1)
   unfolding called_of
   own-started c q = let s = started own a c (outcome_at own a) refl (says-start c q) in (own-explained ∙ s.0, s.1)
 
-  own-present : explained_of description log place a ≡ Because AllPresent → starts_at description log place (call_of a) ≡ answer.Found (Of a.x1)
+  own-present : explained_of description log place a ≡ Ok AllPresent → starts_at description log place (call_of a) ≡ Ok (Some a.x1)
   own-present h =
       let g = own-given AllPresent h in
-      reader-says ∙ ap answer.Found (starting own a g.answer g.accepted ∙ ap (λ (x : Reason). started_by x a.x1) g.reason)
+      reader-says ∙ ap Ok (starting own a g.answer g.accepted ∙ ap (λ (x : Reason). started_by x a.x1) g.reason)
 
-  own-missing : (s on held : CpuSet) → explained_of description log place a ≡ Because (Held s) → powered_at log place ≡ cpus.Found on → held_at log place ≡ cpus.Found held
+  own-missing : (s on held : CpuSet) → explained_of description log place a ≡ Ok (Held s) → powered_at log place ≡ Ok on → held_at log place ≡ Ok held
       → s ≡ less_of (without_of on a.cpu) held
   unfolding missing_of
   own-missing s on held h p q =
@@ -277,7 +274,7 @@ module _ (description : List ℕ) (b : Board) (reads : read_of description ≡ a
       let same-held : own.held ≡ held = let e = sym (d.held es more typed few) ∙ q in cc in
       held-set own a s (own-given (Held s) h).reason ∙ rw (same-on, same-held)
 
-pub own-shown : (description : List ℕ) (b : Board) → read_of description ≡ accepted b → Own description b
+pub own-shown : (description : List ℕ) (b : Board) → read_of description ≡ Ok b → Own description b
 own-shown description b reads = record {
   explained = λ es more o a. own-explained description b reads es more a o.typed o.few;
   missing = λ es more o a. own-missing description b reads es more a o.typed o.few;

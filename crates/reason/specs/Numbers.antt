@@ -1,5 +1,5 @@
 -- A reason and a refusal in numbers, and what each reason says of the agent's answer. Assumes nothing.
-use Rattle.std.specs.Prelude.{ℕ, ◌≡◌}
+use Rattle.std.specs.Prelude.{ℕ, ◌≡◌, Err, Ok, Result}
 use Rattle.basics.specs.First.{first_of}
 use Rattle.cpuset.specs.Set.{none_of}
 use Rattle.cpuset.specs.declared.CpuSet.{CpuSet}
@@ -18,8 +18,8 @@ use Rattle.reason.specs.Reason.{call_of, reason_of}
 use Rattle.reason.specs.declared.Activate.{Activate}
 use Rattle.reason.specs.declared.Reason.{Reason}
 use Rattle.reason.specs.declared.Reason.TheVariants.{NothingPrepared, BeingPrepared, HalfPrepared, BoardDead, WasWithdrawn, OtherComponent, OtherFlags, NotOptional, SkipInGathering, NoSkip, BadEntry, BeingActivated, Skipped, Held, AllPresent}
-use Rattle.reason.specs.declared.Explained.{Explained}
-use Rattle.reason.specs.declared.Explained.TheVariants.{Because, BoardRefused, LogRefused, Departs, CallRefused}
+use Rattle.reason.specs.declared.Unexplained.TheVariants as unexplained
+use Rattle.reason.specs.declared.Unexplained.{Unexplained}
 
 -- ---- a reason: its number, from 1 on (a new one takes the next, and those that are there keep theirs); the component and the CPUs
 -- that it names, 0 and none where it names none; and the answer that it stands for: a status, held, or started
@@ -80,12 +80,12 @@ because_of x = record { refusal = 0; place = 0; reason = number_of x; component 
 unfoldable pub refused_with : ℕ → ℕ → Numbers
 refused_with n place = record { refusal = n; place = place; reason = 0; component = 0; missing = none_of }
 
-abbrev pub numbers_of : Explained → Numbers
-numbers_of (Because x) = because_of x
-numbers_of (BoardRefused x) = refused_with (board_number x) 0
-numbers_of (LogRefused f) = refused_with (log_number f.refusal) f.place
-numbers_of (Departs k) = refused_with departs k
-numbers_of (CallRefused x) = refused_with (call_number x) 0
+abbrev pub numbers_of : Result Reason Unexplained → Numbers
+numbers_of (Ok x) = because_of x
+numbers_of (Err (unexplained.Board x)) = refused_with (board_number x) 0
+numbers_of (Err (unexplained.Log f)) = refused_with (log_number f.refusal) f.place
+numbers_of (Err (unexplained.Departs k)) = refused_with departs k
+numbers_of (Err (unexplained.Call x)) = refused_with (call_number x) 0
 
 -- after a walk that ended so: the board's refusal, the log's, 35 with its place (`Ends`, crates/history/specs/Numbers.antt); then 2, 3,
 -- 4 (Events 11); else the reason

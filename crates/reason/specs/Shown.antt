@@ -1,5 +1,5 @@
 -- What is shown of reasons (`shown` and `own-shown`, proofs/Shown.antt). Assumes nothing.
-use Rattle.std.specs.Prelude.{ℕ, ◌<◌, ◌≤◌, ◌≡◌, true, false, List, ◌++◌, ◌↔◌, length, get_or}
+use Rattle.std.specs.Prelude.{ℕ, ◌<◌, ◌≤◌, ◌≡◌, true, false, List, ◌++◌, ◌↔◌, length, get_or, Err, Ok, Some}
 use Rattle.basics.specs.First.{first_of, IsFirst}
 use Rattle.cpuset.specs.Set.{has_of, without_of, less_of}
 use Rattle.cpuset.specs.declared.CpuSet.{CpuSet}
@@ -10,22 +10,18 @@ use Rattle.rules.specs.Moves.{rows_for}
 use Rattle.rules.specs.declared.Event.{Event}
 use Rattle.rules.specs.declared.Event.TheVariants as event
 use Rattle.rules.specs.declared.Refusal.{Refusal}
-use Rattle.agent.specs.declared.Outcome.TheVariants.{Refused, Accepted}
 use Rattle.reader.specs.Starts.{starts_at, powered_at, held_at}
-use Rattle.reader.specs.declared.Answer.TheVariants as answer
-use Rattle.reader.specs.declared.Cpus.TheVariants as cpus
-use Rattle.reader.specs.declared.Started.TheVariants.{Of}
 use Rattle.trace.specs.Run.{run, log_of, AllTyped}
-use Rattle.trace.specs.Steady.{Some}
+use Rattle.trace.specs.Steady.{SomeCpu}
 use Rattle.history.specs.Walk.{walked_of}
-use Rattle.history.specs.declared.Ended.TheVariants.{Agrees}
 use Rattle.reason.specs.Reason.{call_of, Rule, reason_rows}
 use Rattle.reason.specs.Explained.{outcome_at, called_of, explained_of}
 use Rattle.reason.specs.Numbers.{answer_for}
 use Rattle.reason.specs.declared.Activate.{Activate}
 use Rattle.reason.specs.declared.Reason.{Reason}
 use Rattle.reason.specs.declared.Reason.TheVariants.{Held, AllPresent}
-use Rattle.reason.specs.declared.Explained.TheVariants.{Because, CallRefused}
+use Rattle.reader.specs.declared.Refusal.TheVariants as refusal
+use Rattle.reason.specs.declared.Unexplained.TheVariants as unexplained
 
 -- the board's record where the walk ended
 abbrev pub there : List ℕ → List ℕ → ℕ → Record
@@ -33,7 +29,7 @@ there board log place = (walked_of board log place).rec
 
 -- no refusal comes: the walk gets to the place (so board and log read, and no record departs), and 2, 3 and 4 don't apply
 pub record IsAsked (board log : List ℕ) (place : ℕ) (a : Activate) : Type 0 where
-  pub agrees : (walked_of board log place).ended ≡ Agrees
+  pub agrees : (walked_of board log place).ended ≡ (Ok tt)
   pub caller : first_of (rows_for (there board log place) (event.Call (call_of a))) ≡ 0
 
 -- the rules there, and what stands for one that there isn't
@@ -53,14 +49,14 @@ pub record IsMissing (r : Record) (a : Activate) (cpu : ℕ) : Type 0 where
 pub record Shown (board log : List ℕ) (place : ℕ) (a : Activate) : Type 0 where
   -- a rule's reason comes exactly when no refusal does and it is the first rule that applies
   pub exactly : (i : ℕ) → i < length (rules board log place a)
-      → explained_of board log place a ≡ Because (get_or (rules board log place a) i past).0 ↔ (IsAsked board log place a × IsFirst past (rules board log place a) i)
+      → explained_of board log place a ≡ Ok (get_or (rules board log place a) i past).0 ↔ (IsAsked board log place a × IsFirst past (rules board log place a) i)
   -- the agent's answer there is the one that the reason names: its status, held, or started
-  pub answer : (x : Reason) → explained_of board log place a ≡ Because x → outcome_at (there board log place) a ≡ Accepted (answer_for x)
+  pub answer : (x : Reason) → explained_of board log place a ≡ Ok x → outcome_at (there board log place) a ≡ Ok (answer_for x)
   -- and a caller is refused as the agent refuses it
-  pub refused : (x : Refusal) → explained_of board log place a ≡ CallRefused x → outcome_at (there board log place) a ≡ Refused x
+  pub refused : (x : Refusal) → explained_of board log place a ≡ Err (unexplained.Call x) → outcome_at (there board log place) a ≡ Err x
   -- a held call names exactly the CPUs that are missing, and somebody is
-  pub missing : (s : CpuSet) → explained_of board log place a ≡ Because (Held s) → (cpu : ℕ) → has_of s cpu ≡ true ↔ IsMissing (there board log place) a cpu
-  pub somebody : (s : CpuSet) → explained_of board log place a ≡ Because (Held s) → Some (λ cpu. has_of s cpu ≡ true)
+  pub missing : (s : CpuSet) → explained_of board log place a ≡ Ok (Held s) → (cpu : ℕ) → has_of s cpu ≡ true ↔ IsMissing (there board log place) a cpu
+  pub somebody : (s : CpuSet) → explained_of board log place a ≡ Ok (Held s) → SomeCpu (λ cpu. has_of s cpu ≡ true)
 
 -- ---- of the agent's own logs: any events es and more from a fresh board, registers of 64 bits and versions of 32, that leave no more
 -- records than a log has; the log is that of all of them, and the place the one after es
@@ -81,12 +77,12 @@ pub record Own (description : List ℕ) (b : Board) : Type 0 where
       → explained_of description (own_log b es more) (own_place b es) a ≡ called_of (run b es) a
   -- the missing are those that the plain reader's powered and held sets give
   pub missing : (es more : List Event) → IsOwn b es more → (a : Activate) (s on held : CpuSet)
-      → explained_of description (own_log b es more) (own_place b es) a ≡ Because (Held s)
-      → powered_at (own_log b es more) (own_place b es) ≡ cpus.Found on → held_at (own_log b es more) (own_place b es) ≡ cpus.Found held
+      → explained_of description (own_log b es more) (own_place b es) a ≡ Ok (Held s)
+      → powered_at (own_log b es more) (own_place b es) ≡ Ok on → held_at (own_log b es more) (own_place b es) ≡ Ok held
       → s ≡ less_of (without_of on a.cpu) held
   -- "all present" comes exactly when the plain reader says that a rendezvous activation starts, and it says so of X1
   pub present : (es more : List Event) → IsOwn b es more → (a : Activate)
-      → explained_of description (own_log b es more) (own_place b es) a ≡ Because AllPresent
-      ↔ starts_at description (own_log b es more) (own_place b es) (call_of a) ≡ answer.Found (Of a.x1)
+      → explained_of description (own_log b es more) (own_place b es) a ≡ Ok AllPresent
+      ↔ starts_at description (own_log b es more) (own_place b es) (call_of a) ≡ Ok (Some a.x1)
   pub starts : (es more : List Event) → IsOwn b es more → (a : Activate) (c : ℕ)
-      → starts_at description (own_log b es more) (own_place b es) (call_of a) ≡ answer.Found (Of c) → c ≡ a.x1
+      → starts_at description (own_log b es more) (own_place b es) (call_of a) ≡ Ok (Some c) → c ≡ a.x1

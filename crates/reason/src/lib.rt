@@ -6,15 +6,15 @@ mod ruling;
 ghost use Rattle.std.specs.Prelude.{◌≡◌};
 ghost use Rattle.history.specs.Walk.{walked_of};
 ghost use Rattle.reason.specs.Reason.{call_of};
-ghost use Rattle.reason.specs.Explained.{called_of, explained_of};
+ghost use Rattle.reason.specs.Explained.{called_of, stopped_by, explained_of};
 ghost use Rattle.reason.specs.Numbers.{number_of, component_in, missing_in, numbers_of, Explains};
+ghost use Rattle.reason.specs.declared.Unexplained.TheVariants as unexplained;
 
-use agent::Outcome;
 use board::MOST_CPUS;
 use board_record::Record;
 use codes::{ACTIVATE, Call};
 use cpuset::CpuSet;
-use history::Ended;
+use history::Stop;
 use log_book::Flaw;
 use rules::{Event, Refusal};
 
@@ -50,17 +50,36 @@ pub enum Reason {
     AllPresent,
 }
 
-// The reason; or why there is none: the board's refusal, the log's, the place of the first record that is not the agent's own, or
-// the caller's.
+// Why there is none: the board's refusal, the log's, the place of the first record that is not the agent's own, or the caller's.
 #[derive(Clone, Copy)]
-pub enum Explained {
-    Because(Reason),
-    BoardRefused(board::Refusal),
-    LogRefused(Flaw),
+pub enum Unexplained {
+    Board(board::Refusal),
+    Log(Flaw),
     Departs(usize),
-    CallRefused(Refusal),
+    Call(Refusal),
 }
 
+impl From<Stop> for Unexplained {
+    ghost from_gives = { λ x u. u ≡ stopped_by x };
+
+    fn from(x: Stop) -> Unexplained {
+        match x {
+            Stop::Departs(d) => Unexplained::Departs(d.place),
+            Stop::Board(x) => Unexplained::Board(x),
+            Stop::Log(f) => Unexplained::Log(f),
+        }
+    }
+}
+
+impl From<Refusal> for Unexplained {
+    ghost from_gives = { λ x u. u ≡ unexplained.Call x };
+
+    fn from(x: Refusal) -> Unexplained {
+        Unexplained::Call(x)
+    }
+}
+
+#[tactic(auto, unfolding(crate::specs::Reason::call_of))]
 fn call(a: Activate) -> Call
     ensures { result ≡ call_of a }
 {
@@ -75,33 +94,26 @@ fn call(a: Activate) -> Call
 }
 
 // By the board's record: whom the agent refuses is refused, and else a rule applies.
-fn called(rec: Record, a: Activate) -> Explained
+#[tactic(auto, unfolding(crate::specs::Reason::call_of, crate::specs::Explained::called_of))]
+fn called(rec: Record, a: Activate) -> Result<Reason, Unexplained>
     ensures { result ≡ called_of rec a }
 {
     let mut entries = [0u64; MOST_CPUS];
     let mut contexts = [0u64; MOST_CPUS];
     let after = agent::step(rec, Event::Call(call(a)), &mut entries, &mut contexts);
-    let outcome = after.outcome;
-    match outcome {
-        Outcome::Refused(x) => Explained::CallRefused(x),
-        Outcome::Accepted(_) => Explained::Because(ruling::reason(rec, a)),
-    }
+    after.outcome?;
+    Ok(ruling::reason(rec, a))
 }
 
 // Why an ACTIVATE that is made at a place of a log gets its answer, from the board's description and the log alone.
-pub fn explain(board: &[u8], log: &[u8], place: usize, a: Activate) -> Explained
+#[tactic(auto, using(crate::proofs::Numbers::explains), unfolding(crate::specs::Explained::explained_of))]
+pub fn explain(board: &[u8], log: &[u8], place: usize, a: Activate) -> Result<Reason, Unexplained>
     ensures value { result ≡ explained_of board.now log.now place a }
     ensures explains { Explains (walked_of board.now log.now place) a (numbers_of result) }
 {
-    let w = history::walk_to(board, log, place);
-    let rec = w.rec;
-    let ended = w.ended;
-    match ended {
-        Ended::Agrees => called(rec, a),
-        Ended::Departs(d) => Explained::Departs(d.place),
-        Ended::BoardRefused(x) => Explained::BoardRefused(x),
-        Ended::LogRefused(f) => Explained::LogRefused(f),
-    }
+    let walked = history::walk_to(board, log, place);
+    walked.ended?;
+    called(walked.rec, a)
 }
 
 // The number of a reason, from 1 on.
@@ -132,21 +144,12 @@ pub fn component(x: Reason) -> u64
     ensures { result ≡ component_in x }
 {
     match x {
-        Reason::NothingPrepared => 0,
-        Reason::BeingPrepared(c) => c,
-        Reason::HalfPrepared(c) => c,
-        Reason::BoardDead => 0,
-        Reason::WasWithdrawn(c) => c,
-        Reason::OtherComponent(c) => c,
-        Reason::OtherFlags => 0,
-        Reason::NotOptional => 0,
-        Reason::SkipInGathering => 0,
-        Reason::NoSkip => 0,
-        Reason::BadEntry => 0,
-        Reason::BeingActivated(c) => c,
-        Reason::Skipped => 0,
-        Reason::Held(_) => 0,
-        Reason::AllPresent => 0,
+        Reason::BeingPrepared(c)
+        | Reason::HalfPrepared(c)
+        | Reason::WasWithdrawn(c)
+        | Reason::OtherComponent(c)
+        | Reason::BeingActivated(c) => c,
+        _ => 0,
     }
 }
 
@@ -154,22 +157,8 @@ pub fn component(x: Reason) -> u64
 pub fn missing(x: Reason) -> CpuSet
     ensures { result ≡ missing_in x }
 {
-    let nobody = cpuset::none();
     match x {
-        Reason::NothingPrepared => nobody,
-        Reason::BeingPrepared(_) => nobody,
-        Reason::HalfPrepared(_) => nobody,
-        Reason::BoardDead => nobody,
-        Reason::WasWithdrawn(_) => nobody,
-        Reason::OtherComponent(_) => nobody,
-        Reason::OtherFlags => nobody,
-        Reason::NotOptional => nobody,
-        Reason::SkipInGathering => nobody,
-        Reason::NoSkip => nobody,
-        Reason::BadEntry => nobody,
-        Reason::BeingActivated(_) => nobody,
-        Reason::Skipped => nobody,
         Reason::Held(s) => s,
-        Reason::AllPresent => nobody,
+        _ => cpuset::none(),
     }
 }

@@ -8,106 +8,83 @@ use crate::{Activate, Reason};
 use board_record::{DEAD, HALF_PREPARED, IDLE, PREPARING, Record, WITHDRAWN};
 use cpuset::CpuSet;
 
-// Those that a rendezvous waits for: the powered CPUs, and none that is off.
-fn awaited(rec: Record) -> CpuSet
-    ensures { result ≡ rec.on }
-{
-    rec.on
-}
-
-// Of those the ones that are not held and are not the caller.
+// Whom a rendezvous waits for: the powered CPUs that are not held and are not the caller; none that is off.
+#[tactic(auto, unfolding(crate::specs::Reason::missing_of))]
 fn still_missing(rec: Record, cpu: u64) -> CpuSet
     ensures { result ≡ missing_of rec cpu }
 {
-    let held = rec.held;
-    cpuset::less(cpuset::without(awaited(rec), cpu), held)
+    cpuset::less(cpuset::without(rec.on, cpu), rec.held)
 }
 
 // The call is granted: it skips, or the caller joins those who wait.
+#[tactic(auto, unfolding(crate::specs::Reason::call_of))]
 fn joined(rec: Record, a: Activate) -> Reason
     ensures { result ≡ first_in AllPresent (join_rows rec a) }
 {
     if a.x2 == 1 {
-        return Reason::Skipped;
+        Reason::Skipped
+    } else if cpuset::same(cpuset::with(rec.held, a.cpu), rec.on) {
+        Reason::AllPresent
+    } else {
+        Reason::Held(still_missing(rec, a.cpu))
     }
-    let held = rec.held;
-    if cpuset::same(cpuset::with(held, a.cpu), awaited(rec)) {
-        return Reason::AllPresent;
-    }
-    Reason::Held(still_missing(rec, a.cpu))
 }
 
 // The entry, and whether an activation runs already.
 fn answered(rec: Record, a: Activate) -> Reason
     ensures { result ≡ first_in AllPresent (answer_rows rec a ++ join_rows rec a) }
 {
-    let s = rec.state;
-    let b = rec.board;
-    if board::is_entry_right(b, a.x1, a.x3) {
-        if board_record::is_alone(s) {
-            return Reason::BeingActivated(board_record::subject_number(s));
-        }
-        return joined(rec, a);
+    if !board::is_entry_right(rec.board, a.x1, a.x3) {
+        Reason::BadEntry
+    } else if board_record::is_alone(rec.state) {
+        Reason::BeingActivated(board_record::subject_number(rec.state))
+    } else {
+        joined(rec, a)
     }
-    Reason::BadEntry
 }
 
 // Whether skip fits the component and the state.
+#[tactic(auto, unfolding(crate::specs::Reason::call_of))]
 fn skipping(rec: Record, a: Activate) -> Reason
     ensures { result ≡ first_in AllPresent (skip_rows rec a ++ (answer_rows rec a ++ join_rows rec a)) }
 {
-    let s = rec.state;
-    let b = rec.board;
-    if a.x2 == 1 {
-        let c = board::numbered(b, a.x1);
-        if c.optional {
-            if board_record::is_gathering(s) {
-                return Reason::SkipInGathering;
-            }
-            return answered(rec, a);
-        }
-        return Reason::NotOptional;
+    let skip = a.x2 == 1;
+    if skip && !board::numbered(rec.board, a.x1).optional {
+        Reason::NotOptional
+    } else if skip && board_record::is_gathering(rec.state) {
+        Reason::SkipInGathering
+    } else if !skip && board_record::skips_rendezvous(rec.state) {
+        Reason::NoSkip
+    } else {
+        answered(rec, a)
     }
-    if board_record::skips_rendezvous(s) {
-        return Reason::NoSkip;
-    }
-    answered(rec, a)
 }
 
 // The component and the flags.
+#[tactic(auto, unfolding(crate::specs::Reason::call_of))]
 fn asked(rec: Record, a: Activate) -> Reason
     ensures { result ≡ first_in AllPresent (ask_rows rec a ++ (skip_rows rec a ++ (answer_rows rec a ++ join_rows rec a))) }
 {
-    let s = rec.state;
-    if board_record::is_for(s, a.x1) {
-        if a.x2 > 1 {
-            return Reason::OtherFlags;
-        }
-        return skipping(rec, a);
+    if !board_record::is_for(rec.state, a.x1) {
+        Reason::OtherComponent(board_record::subject_number(rec.state))
+    } else if a.x2 > 1 {
+        Reason::OtherFlags
+    } else {
+        skipping(rec, a)
     }
-    Reason::OtherComponent(board_record::subject_number(s))
 }
 
 // The first rule that applies, beginning with the state's.
+#[tactic(auto, unfolding(crate::specs::Reason::reason_of))]
 pub(crate) fn reason(rec: Record, a: Activate) -> Reason
     ensures { result ≡ reason_of rec a }
 {
-    let s = rec.state;
-    let place = board_record::place_of(s);
-    if place == IDLE {
-        return Reason::NothingPrepared;
+    match board_record::place_of(rec.state) {
+        IDLE => Reason::NothingPrepared,
+        PREPARING => Reason::BeingPrepared(board_record::subject_number(rec.state)),
+        HALF_PREPARED => Reason::HalfPrepared(board_record::subject_number(rec.state)),
+        DEAD => Reason::BoardDead,
+        WITHDRAWN => Reason::WasWithdrawn(board_record::subject_number(rec.state)),
+        _ => asked(rec, a),
     }
-    if place == PREPARING {
-        return Reason::BeingPrepared(board_record::subject_number(s));
-    }
-    if place == HALF_PREPARED {
-        return Reason::HalfPrepared(board_record::subject_number(s));
-    }
-    if place == DEAD {
-        return Reason::BoardDead;
-    }
-    if place == WITHDRAWN {
-        return Reason::WasWithdrawn(board_record::subject_number(s));
-    }
-    asked(rec, a)
 }

@@ -1,86 +1,74 @@
 // reads a log from standard input and writes which component is prepared at each place of it
 #![tactic(auto)]
 
-ghost use Rattle.std.specs.Prelude.{◌≡◌};
+ghost use Rattle.std.specs.Prelude.{◌≡◌, Err, Ok};
 ghost use Rattle.log_book.specs.Log.{past_of, checked_of};
-ghost use Rattle.log_book.specs.declared.Checked.TheVariants.{Records, Refused};
 ghost use Rattle.log_book.specs.Prepared.{prepared_of};
 
-use given::File;
-use log_book::{Checked, Flaw, MOST_BYTES, Prepared, Primed};
-use std::io;
+use log_book::{Flaw, MOST_BYTES, Prepared};
+use std::{fmt, io};
 
 // One byte more than the longest log: a log that fills it is too long, whatever follows.
 const ROOM: usize = MOST_BYTES + 1;
 
-fn text(rt: &impl Print, s: &[u8]) -> io::Result<()> {
-    rt.write_all(s)
-}
+// What is prepared, as a line says it.
+#[derive(Clone, Copy)]
+struct Shown(Option<u64>);
 
-fn number(rt: &impl Print, n: u64) -> io::Result<()> {
-    rt.print(n)
+impl fmt::Display for Shown {
+    fn fmt<W: fmt::Write>(&self, f: &mut fmt::Formatter<W>) -> fmt::Result {
+        match self.0 {
+            None => f.write_str("none"),
+            Some(c) => write!(f, "{c}"),
+        }
+    }
 }
 
 // The line of a place, with what is prepared there.
 fn line(rt: &impl Print, log: &[u8], place: usize, p: Prepared) -> io::Result<()>
     requires { p ≡ prepared_of (past_of log.now place) }
 {
-    number(rt, place as u64)?;
-    text(rt, b" ")?;
-    let primed = p.primed;
-    match primed {
-        Primed::Nothing => text(rt, b"none")?,
-        Primed::Of(c) => number(rt, c)?,
-    }
-    text(rt, b" ")?;
-    number(rt, p.looked as u64)?;
-    text(rt, b"\n")
+    println!(rt; "{place} {} {}", Shown(p.primed), p.looked)
 }
 
 // The lines of a log of n records, each of which is read once.
+#[tactic(auto, unfolding(log_book::specs::Prepared::prepared_of, log_book::specs::Log::past_of))]
 fn lines(rt: &impl Print, log: &[u8], n: usize) -> io::Result<()>
-    requires { checked_of log.now 0 ≡ Records n }
+    requires { checked_of log.now 0 ≡ Ok n }
 {
     let mut p = Prepared {
-        primed: Primed::Nothing,
+        primed: None,
         looked: 0,
     };
     line(rt, log, 0, p)?;
-    let mut k: usize = 0;
-    while k < n {
+    for k in 0..n {
         p = log_book::prepared_next(log, k, p);
-        k += 1;
-        line(rt, log, k, p)?;
+        line(rt, log, k + 1, p)?;
     }
     Ok(())
 }
 
 // The line of a log that is refused.
 fn refused(rt: &impl Print, log: &[u8], f: Flaw) -> io::Result<()>
-    requires { checked_of log.now 0 ≡ Refused f }
+    requires { checked_of log.now 0 ≡ Err f }
 {
-    let refusal = f.refusal;
-    text(rt, b"refused ")?;
-    number(rt, log_record::number(refusal))?;
-    text(rt, b" at ")?;
-    number(rt, f.place as u64)?;
-    text(rt, b"\n")
+    println!(rt; "refused {} at {}", log_record::number(f.refusal), f.place)
 }
 
 fn replay(rt: &impl Print, log: &[u8]) -> io::Result<()> {
     match log_book::check_log(log, 0) {
-        Checked::Records(n) => {
-            text(rt, b"place primed looked\n")?;
+        Ok(n) => {
+            println!(rt; "place primed looked")?;
             lines(rt, log, n)
         }
-        Checked::Refused(f) => refused(rt, log, f),
+        Err(f) => refused(rt, log, f),
     }
 }
 
 fn main(rt: HostRuntime) -> io::Result<()> {
     let mut buf = [0u8; ROOM];
     match given::fill(&mut rt.stdin(), &mut buf) {
-        File::Bytes(n) => replay(&rt, &buf[..n]),
-        File::Unread => rt.eprintln("cannot read standard input"),
+        Some(n) => replay(&rt, &buf[..n]),
+        None => rt.eprintln("cannot read standard input"),
     }
 }

@@ -1,4 +1,5 @@
 -- What comes before the rules of an event: whatever goes on from it goes along its three tests. Assumes nothing.
+use Rattle.std.specs.Prelude.{Err, Ok, Result}
 use Prim.Native.Nat.{ℕ}
 use mathlib.Core.Path.{◌≡◌, refl}
 use mathlib.Core.Bool.{Bool, true, false}
@@ -10,8 +11,6 @@ use Rattle.board_record.specs.declared.Record.{Record}
 use Rattle.rules.specs.Statuses.{number_of}
 use Rattle.rules.specs.Decide.{admitted, admission_of}
 use Rattle.rules.specs.Moves.{refusal_of, admission_rows}
-use Rattle.rules.specs.declared.Admission.{Admission}
-use Rattle.rules.specs.declared.Admission.TheVariants.{Admitted, Refused}
 use Rattle.rules.specs.declared.Refusal.{Refusal}
 use Rattle.rules.specs.declared.Refusal.TheVariants.{NotWellFormed, TableShort}
 
@@ -30,11 +29,11 @@ by_tests {P} r entries contexts nine short short-too long = go (well_formed r) (
     go true false false w e d = long w e d
 
 -- going on from an admission: what is given where it is one, else what is made of its refusal
-abbrev pub onward : {A : Type 0} → (Refusal → A) → A → Admission → A
-onward refuse given Admitted = given
-onward refuse given (Refused x) = refuse x
+abbrev pub onward : {A : Type 0} → (Refusal → A) → A → Result Unit Refusal → A
+onward refuse given (Ok tt) = given
+onward refuse given (Err x) = refuse x
 
-pub goes_on : {A : Type 0} (refuse : Refusal → A) (given : A) (r : Record) (entries contexts : ℕ) (a : Admission)
+pub goes_on : {A : Type 0} (refuse : Refusal → A) (given : A) (r : Record) (entries contexts : ℕ) (a : Result Unit Refusal)
     → a ≡ admission_of r entries contexts → onward refuse given a ≡ admitted refuse r entries contexts given
 unfolding admission_of
 goes_on refuse given r entries contexts a q = rw q (by_tests r entries contexts (λ w. rw w) (λ w e. rw (w, e)) (λ w e d. rw (w, e, d)) (λ w e d. rw (w, e, d)))
@@ -47,10 +46,10 @@ admitted-first refuse number refusal r entries contexts given rows next =
     by_tests r entries contexts (λ w. rw w (refusal NotWellFormed)) (λ w e. rw (w, e) (refusal TableShort)) (λ w e d. rw (w, e, d) (refusal TableShort))
     (λ w e d. rw (w, e, d) (next w))
 
-pub admission-first : (r : Record) (entries contexts : ℕ) (a : Admission) → a ≡ admission_of r entries contexts
+pub admission-first : (r : Record) (entries contexts : ℕ) (a : Result Unit Refusal) → a ≡ admission_of r entries contexts
     → refusal_of a ≡ first_of (admission_rows r entries contexts [])
 unfolding admission_of
-admission-first r entries contexts a q = rw q (admitted-first Refused refusal_of (λ x. refl) r entries contexts Admitted [] (λ w. refl))
+admission-first r entries contexts a q = rw q (admitted-first Err refusal_of (λ x. refl) r entries contexts (Ok tt) [] (λ w. refl))
 
 -- what the check cites of `admit`
 pub ruleset admissions = (admission-first)

@@ -1,5 +1,6 @@
 -- What holds where a move is decided: one record of facts for each kind of move, shown along the rules (`decide-guard`, Guards.antt).
 -- Assumes nothing.
+use Rattle.std.specs.Prelude.{Some}
 use Prim.Native.Nat.{ℕ, ◌^◌, ◌<◌, ◌≤◌}
 use mathlib.Core.Path.{◌≡◌, sym, ap, ◌∙◌}
 use mathlib.Core.Bool.{Bool, true, false}
@@ -27,7 +28,6 @@ use Rattle.rules.specs.declared.Report.{Report}
 use Rattle.rules.specs.declared.Waking.{Waking}
 use Rattle.rules.specs.declared.numbers.Function.{Function}
 use Rattle.rules.specs.declared.numbers.Function.TheVariants as function
-use Rattle.rules.specs.declared.numbers.Decoded.TheVariants.{Known}
 use Rattle.rules.proofs.States.{Primable, Priming, Gatherable, Skippable, Activating, Cancellable, Vacant, PowerFree, activating-subject}
 
 -- refusal 9 is only for a record that is not well formed: in together no caller exists
@@ -44,7 +44,7 @@ pub record Called (r : Record) (e : Event) : Type 0 where
 
 -- which function it asks for
 abbrev pub Asks : Call → Function → Type 0
-Asks call f = decode_of (function_number call.x0) ≡ Known f
+Asks call f = decode_of (function_number call.x0) ≡ Some f
 
 -- the record stays; X0 is a word, a CANCEL that returned 0 found nothing to end, and no CPU_ON returned 0
 pub record Returns (r : Record) (e : Event) (x : Registers) : Type 0 where

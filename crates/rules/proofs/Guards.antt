@@ -1,5 +1,6 @@
 -- The facts of Facts.antt hold where their moves are decided: each rule is gone along once, and its tests on the way are the facts.
 -- Assumes nothing.
+use Rattle.std.specs.Prelude.{None, Option, Some}
 use Prim.Native.Nat.{ℕ, ◌-◌, ◌^◌, ◌<◌, ◌≤◌}
 use mathlib.Core.Path.{◌≡◌, refl, sym, ap, ◌∙◌}
 use mathlib.Core.Bool.{Bool, true, false, not, ◌&&◌, ◌||◌}
@@ -44,8 +45,6 @@ use Rattle.rules.specs.declared.cells.PowerCell.{PowerCell}
 use Rattle.rules.specs.declared.cells.PowerCell.TheVariants as power
 use Rattle.rules.specs.declared.numbers.Function.{Function}
 use Rattle.rules.specs.declared.numbers.Function.TheVariants as function
-use Rattle.rules.specs.declared.numbers.Decoded.{Decoded}
-use Rattle.rules.specs.declared.numbers.Decoded.TheVariants.{Known, Unknown}
 use Rattle.rules.proofs.States.{Primable, Tried, Vacant, PowerFree, PrimeSays, ActivateSays, CancelSays, PowerSays, row-says, jobs, gatherable, skippable}
 use Rattle.rules.proofs.Facts.{Called, Asks, Joins, Facts}
 
@@ -74,9 +73,9 @@ minus-word k =
     pick-cases (λ n. n < 2 ^ 64) (eqb k 0) 0 (2 ^ 64 - k) (λ t. omega arith) (λ f. let d = eqb-false k 0 f in omega arith)
 
 -- the functions whose success the record shows, and so the log
-abbrev tells : Decoded → Bool
-tells (Known f) = eqb (number_for f) cancel_number || eqb (number_for f) on_number
-tells Unknown = false
+abbrev tells : Option Function → Bool
+tells (Some f) = eqb (number_for f) cancel_number || eqb (number_for f) on_number
+tells None = false
 
 passed : (stop ok : Bool) → pick stop false ok ≡ true → (stop ≡ false) × (ok ≡ true)
 passed true ok e = absurd (not-both refl (sym e))
@@ -92,7 +91,7 @@ module _ (r : Record) (e : Event) (by : Called r e) where
   nobody-calls h = made r e no_caller λ q. refuted (well_formed r) λ w. none_free r (told r w) h call.cpu by.powered by.free
 
   -- it returns, and was neither CANCEL nor CPU_ON
-  plain : (d : Decoded) (x : Registers) → x.x0 < 2 ^ 64 → decode_of (function_number call.x0) ≡ d → tells d ≡ false → Guard r e (Return x)
+  plain : (d : Option Function) (x : Registers) → x.x0 < 2 ^ 64 → decode_of (function_number call.x0) ≡ d → tells d ≡ false → Guard r e (Return x)
   plain d x l a n = made r e (Return x) (record {
     by = by;
     word = l;
@@ -100,11 +99,11 @@ module _ (r : Record) (e : Event) (by : Called r e) where
     switched = λ c z. not-both (ap tells (sym a ∙ c)) n;
   })
 
-  told-plain : (d : Decoded) (x0 : ℕ) → x0 < 2 ^ 64 → decode_of (function_number call.x0) ≡ d → tells d ≡ false → Guard r e (returned x0)
+  told-plain : (d : Option Function) (x0 : ℕ) → x0 < 2 ^ 64 → decode_of (function_number call.x0) ≡ d → tells d ≡ false → Guard r e (returned x0)
   unfolding returned
   told-plain d x0 l a n = plain d (record { x0 = x0; x1 = 0; x2 = 0; x3 = 0 }) l a n
 
-  said : (d : Decoded) (k : ℕ) → decode_of (function_number call.x0) ≡ d → tells d ≡ false → Guard r e (says k)
+  said : (d : Option Function) (k : ℕ) → decode_of (function_number call.x0) ≡ d → tells d ≡ false → Guard r e (says k)
   said d k a n = told-plain d (minus_of k) (minus-word k) a n
 
   features-guard : Asks call function.Features → Guard r e (features_of call.x1)
@@ -289,9 +288,9 @@ module _ (r : Record) (e : Event) (by : Called r e) where
   function-guard function.CpuOff a = off-guard a (rule_of r.state).power (row-says r.state call.x1).3
   function-guard function.CpuOn a = on-guard a (row-says r.state call.x1).3
 
-  answer-guard : (d : Decoded) → decode_of (function_number call.x0) ≡ d → Guard r e (answer_by d r call)
-  answer-guard (Known f) a = function-guard f a
-  answer-guard Unknown a = said _ _ a refl
+  answer-guard : (d : Option Function) → decode_of (function_number call.x0) ≡ d → Guard r e (answer_by d r call)
+  answer-guard (Some f) a = function-guard f a
+  answer-guard None a = said _ _ a refl
 
 -- ---- every event
 module _ (r : Record) where

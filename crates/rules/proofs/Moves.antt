@@ -1,5 +1,6 @@
 -- What is decided, in document 01's numbers: a refusal is the first of its table, and past these tests no call is refused (`Free`);
 -- what is accepted is told as its kind of event is, by its move's facts. Assumes nothing.
+use Rattle.std.specs.Prelude.{None, Option, Some}
 use Prim.Native.Nat.{ℕ}
 use mathlib.Core.Path.{◌≡◌, refl}
 use mathlib.Core.Bool.{Bool, true, false, not, ◌&&◌}
@@ -42,8 +43,6 @@ use Rattle.rules.specs.declared.cells.PowerCell.{PowerCell}
 use Rattle.rules.specs.declared.cells.PowerCell.TheVariants as power
 use Rattle.rules.specs.declared.numbers.Function.{Function}
 use Rattle.rules.specs.declared.numbers.Function.TheVariants as function
-use Rattle.rules.specs.declared.numbers.Decoded.{Decoded}
-use Rattle.rules.specs.declared.numbers.Decoded.TheVariants.{Known, Unknown}
 use Rattle.rules.proofs.States.{PrimeSays, ActivateSays, CancelSays, PowerSays, row-says, priming-is}
 use Rattle.rules.proofs.Admitted.{admitted-first}
 use Rattle.rules.proofs.Facts.{Facts}
@@ -141,9 +140,9 @@ module _ (r : Record) (call : Call) (some-free : holding_of r.state ≡ All → 
       (either (good_entry r.board.first r.board.last call.x2) _ _
       (either (has_of r.on call.x1) _ _ (said _) (wake-free (rule_of r.state).power (row-says r.state call.x1).3)) (said _))
 
-  answer-free : (d : Decoded) → Free (answer_by d r call)
-  answer-free (Known f) = function-free f
-  answer-free Unknown = said _
+  answer-free : (d : Option Function) → Free (answer_by d r call)
+  answer-free (Some f) = function-free f
+  answer-free None = said _
 
 -- ---- the table: "The first that applies" (Events 20)
 

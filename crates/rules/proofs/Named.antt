@@ -1,4 +1,5 @@
 -- A word names a function exactly when it is the function's number. Assumes nothing.
+use Rattle.std.specs.Prelude.{None, Option, Some}
 use Prim.Native.Nat.{ℕ}
 use mathlib.Core.Path.{◌≡◌, refl, ap, ◌∙◌}
 use lib.Dec.{eqb}
@@ -8,26 +9,24 @@ use Rattle.basics.proofs.Choice.{pick-cases}
 use Rattle.rules.specs.Numbers.{number_for, decode_of}
 use Rattle.rules.specs.declared.numbers.Function.{Function}
 use Rattle.rules.specs.declared.numbers.Function.TheVariants as function
-use Rattle.rules.specs.declared.numbers.Decoded.{Decoded}
-use Rattle.rules.specs.declared.numbers.Decoded.TheVariants.{Known, Unknown}
 
-abbrev number_in : Decoded → ℕ
-number_in (Known f) = number_for f
-number_in Unknown = 0
+abbrev number_in : Option Function → ℕ
+number_in (Some f) = number_for f
+number_in None = 0
 
 -- a choice by w = n: n's function, or what the rest says
-choice : (w : ℕ) (f g : Function) (rest : Decoded) → (rest ≡ Known f → w ≡ number_for f) → pick (eqb w (number_for g)) (Known g) rest ≡ Known f → w ≡ number_for f
+choice : (w : ℕ) (f g : Function) (rest : Option Function) → (rest ≡ Some f → w ≡ number_for f) → pick (eqb w (number_for g)) (Some g) rest ≡ Some f → w ≡ number_for f
 choice w f g rest k =
-    pick-cases (λ (d : Decoded). d ≡ Known f → w ≡ number_for f) (eqb w (number_for g)) (Known g) rest (λ t e. eqb-true w (number_for g) t ∙ ap number_in e) (λ t. k)
+    pick-cases (λ (d : Option Function). d ≡ Some f → w ≡ number_for f) (eqb w (number_for g)) (Some g) rest (λ t e. eqb-true w (number_for g) t ∙ ap number_in e) (λ t. k)
 
-pub named : (w : ℕ) (f : Function) → decode_of w ≡ Known f → w ≡ number_for f
+pub named : (w : ℕ) (f : Function) → decode_of w ≡ Some f → w ≡ number_for f
 unfolding decode_of
 named w f =
     choice w f function.Version _ (choice w f function.Features _ (choice w f function.GetInfo _ (choice w f function.GetInventory _
     (choice w f function.Prime _ (choice w f function.Activate _ (choice w f function.Cancel _ (choice w f function.CpuOff _
-    (choice w f function.CpuOn Unknown (λ e. never cc)))))))))
+    (choice w f function.CpuOn None (λ e. never cc)))))))))
 
-pub names : (f : Function) → decode_of (number_for f) ≡ Known f
+pub names : (f : Function) → decode_of (number_for f) ≡ Some f
 unfolding decode_of
 names function.Version = refl
 names function.Features = refl

@@ -1,5 +1,6 @@
 -- The states that the moves ask for, each kind with the cases that it has, and what they are: whom they hold, and what they
 -- are about. All by cases of the state, and the table row by row (`row-says`). Assumes nothing.
+use Rattle.std.specs.Prelude.{Some}
 use Prim.Native.Nat.{ℕ}
 use mathlib.Core.Path.{◌≡◌, refl}
 use mathlib.Core.Bool.{Bool, true, false}
@@ -12,7 +13,6 @@ use Rattle.board_record.specs.WellFormed.{keeps_entries}
 use Rattle.board_record.specs.declared.Holding.TheVariants.{Nobody, One, All}
 use Rattle.board_record.specs.declared.State.{State}
 use Rattle.board_record.specs.declared.State.TheVariants.{Idle, Preparing, HalfPrepared, Ready, Gathering, Together, Alone, HalfActivated, Dead, Withdrawn}
-use Rattle.board_record.specs.declared.Subject.TheVariants as subject
 use Rattle.rules.specs.Calls.{is_other}
 use Rattle.rules.specs.Reports.{is_priming, is_activating}
 use Rattle.rules.specs.Table.{rule_of}
@@ -95,15 +95,15 @@ pub skip-rests : {s : State} {id : ℕ} (b : Board) → Skippable s id → Rests
 skip-rests b skipped-first = (refl, refl)
 skip-rests b skipped-again = (refl, refl)
 
-pub skip-subject : {s : State} {id : ℕ} → Skippable s id → subject_of s ≡ subject.Of id
+pub skip-subject : {s : State} {id : ℕ} → Skippable s id → subject_of s ≡ Some id
 skip-subject skipped-first = refl
 skip-subject skipped-again = refl
 
-pub gather-subject : {s : State} {id : ℕ} → Gatherable s id → subject_of s ≡ subject.Of id
+pub gather-subject : {s : State} {id : ℕ} → Gatherable s id → subject_of s ≡ Some id
 gather-subject first_one = refl
 gather-subject one-more = refl
 
-pub priming-subject : {s : State} {id : ℕ} {withdrawn : Bool} → Priming s id withdrawn → subject_of s ≡ subject.Of id
+pub priming-subject : {s : State} {id : ℕ} {withdrawn : Bool} → Priming s id withdrawn → subject_of s ≡ Some id
 priming-subject priming-now = refl
 priming-subject priming-withdrawn = refl
 
@@ -117,7 +117,7 @@ pub priming-is : {s : State} {id : ℕ} {withdrawn : Bool} → Priming s id with
 priming-is priming-now = refl
 priming-is priming-withdrawn = refl
 
-pub activating-subject : {s : State} {id : ℕ} → Activating s id → (subject_of s ≡ subject.Of id) × (skips_rendezvous s ≡ is_alone s)
+pub activating-subject : {s : State} {id : ℕ} → Activating s id → (subject_of s ≡ Some id) × (skips_rendezvous s ≡ is_alone s)
 activating-subject activating-together = (refl, refl)
 activating-subject activating-alone = (refl, refl)
 

@@ -1,6 +1,6 @@
 -- What each call calls for (document 01, "Calls"; refusals 2 to 4 and the registers of a return: "Events and what they answer").
 -- (H) marks a house choice. Assumes nothing.
-use Rattle.std.specs.Prelude.{ℕ, zero, suc, ◌+◌, ◌*◌, Bool, false, not, ◌&&◌, List, eqb, leb, ltb, get_or}
+use Rattle.std.specs.Prelude.{ℕ, zero, suc, ◌+◌, ◌*◌, Bool, false, not, ◌&&◌, List, eqb, leb, ltb, get_or, None, Option, Some}
 use Rattle.basics.specs.Choice.{pick}
 use Rattle.codes.specs.Numbers.{version_number, cancel_number, function_number}
 use Rattle.cpuset.specs.Set.{has_of, only_of, with_of, same_of}
@@ -10,8 +10,6 @@ use Rattle.board.specs.declared.Component.{Component}
 use Rattle.board_record.specs.Record.{subject_of, is_for, skips_rendezvous, is_gathering, is_alone, is_pending, version_of}
 use Rattle.board_record.specs.declared.Record.{Record}
 use Rattle.board_record.specs.declared.State.{State}
-use Rattle.board_record.specs.declared.Subject.{Subject}
-use Rattle.board_record.specs.declared.Subject.TheVariants as subject
 use Rattle.rules.specs.Statuses.{minus_of}
 use Rattle.rules.specs.Numbers.{decode_of}
 use Rattle.rules.specs.Table.{rule_of}
@@ -31,8 +29,6 @@ use Rattle.rules.specs.declared.cells.PowerCell.{PowerCell}
 use Rattle.rules.specs.declared.cells.PowerCell.TheVariants as power
 use Rattle.rules.specs.declared.numbers.Function.{Function}
 use Rattle.rules.specs.declared.numbers.Function.TheVariants as function
-use Rattle.rules.specs.declared.numbers.Decoded.{Decoded}
-use Rattle.rules.specs.declared.numbers.Decoded.TheVariants.{Known, Unknown}
 
 -- "returned", with the "unnamed ones" 0 (Events 4)
 unfoldable pub returned : ℕ → Move
@@ -165,9 +161,9 @@ activate_of r call = activate_by (rule_of r.state).activate r call
 
 -- ---- CANCEL: the id counts only where the state has a component, and before the cell (Calls 26 and 27); in preparing "the state
 -- becomes withdrawn" (request 3)
-abbrev pub is_other_than : Subject → ℕ → Bool
-is_other_than subject.Nothing id = false
-is_other_than (subject.Of c) id = not (eqb c id)
+abbrev pub is_other_than : Option ℕ → ℕ → Bool
+is_other_than None id = false
+is_other_than (Some c) id = not (eqb c id)
 
 abbrev pub is_other : State → ℕ → Bool
 is_other s id = is_other_than (subject_of s) id
@@ -222,9 +218,9 @@ function_of r call function.Cancel = cancel_of r call
 function_of r call function.CpuOff = off_of r call.cpu
 function_of r call function.CpuOn = on_of r call
 
-abbrev pub answer_by : Decoded → Record → Call → Move
-answer_by (Known f) r call = function_of r call f
-answer_by Unknown r call = says 1
+abbrev pub answer_by : Option Function → Record → Call → Move
+answer_by (Some f) r call = function_of r call f
+answer_by None r call = says 1
 
 unfoldable pub answer_of : Record → Call → Move
 answer_of r call = answer_by (decode_of (function_number call.x0)) r call

@@ -1,13 +1,11 @@
 -- What an event calls for: the rules in their order of precedence (document 01, "Events and what they answer").
 -- Assumes nothing.
-use Rattle.std.specs.Prelude.{ℕ, ltb}
+use Rattle.std.specs.Prelude.{ℕ, ltb, Err, Ok, Result}
 use Rattle.basics.specs.Choice.{pick}
 use Rattle.board_record.specs.WellFormed.{well_formed}
 use Rattle.board_record.specs.declared.Record.{Record}
 use Rattle.rules.specs.Calls.{call_of}
 use Rattle.rules.specs.Reports.{prime_report_of, activate_report_of, image_of}
-use Rattle.rules.specs.declared.Admission.{Admission}
-use Rattle.rules.specs.declared.Admission.TheVariants.{Admitted, Refused}
 use Rattle.rules.specs.declared.Event.{Event}
 use Rattle.rules.specs.declared.Event.TheVariants as event
 use Rattle.rules.specs.declared.Refusal.{Refusal}
@@ -24,8 +22,8 @@ admitted refuse r entry_places context_places given =
     given))
     (refuse NotWellFormed)
 
-unfoldable pub admission_of : Record → ℕ → ℕ → Admission
-admission_of r entry_places context_places = admitted Refused r entry_places context_places Admitted
+unfoldable pub admission_of : Record → ℕ → ℕ → Result Unit Refusal
+admission_of r entry_places context_places = admitted Err r entry_places context_places (Ok tt)
 
 -- 2 to 8, and what is not refused
 abbrev pub event_of : Record → Event → Move

@@ -1,6 +1,6 @@
 -- A move in document 01's numbers, and which refusal an event is given ("Events and what they answer"; the outcomes: "Packed
 -- forms"). Assumes nothing.
-use Rattle.std.specs.Prelude.{ℕ, ◌≡◌, Bool, true, not, ◌&&◌, ◌||◌, List, [], ◌∷◌, eqb, leb, ltb}
+use Rattle.std.specs.Prelude.{ℕ, ◌≡◌, Bool, true, not, ◌&&◌, ◌||◌, List, [], ◌∷◌, eqb, leb, ltb, Err, Ok, Result}
 use Rattle.basics.specs.Choice.{pick}
 use Rattle.basics.specs.Every.{one_of}
 use Rattle.basics.specs.First.{Row, first_of}
@@ -14,12 +14,11 @@ use Rattle.board_record.specs.declared.Record.{Record}
 use Rattle.board_record.specs.declared.State.{State}
 use Rattle.rules.specs.Statuses.{minus_of, cancelled_status, number_of}
 use Rattle.rules.specs.Reports.{is_priming, is_activating, activate_allows}
-use Rattle.rules.specs.declared.Admission.{Admission}
-use Rattle.rules.specs.declared.Admission.TheVariants.{Admitted, Refused}
 use Rattle.rules.specs.declared.Event.{Event}
 use Rattle.rules.specs.declared.Event.TheVariants as event
 use Rattle.rules.specs.declared.Move.{Move}
 use Rattle.rules.specs.declared.Move.TheVariants.{Refuse, Return, NoteInfo, StartPrime, Gather, StartTogether, StartAlone, ToIdle, Withdraw, PowerOff, PowerOn, EndPrime, EndWithdrawn, EndActivate, NoteImage}
+use Rattle.rules.specs.declared.Refusal.{Refusal}
 
 -- ---- the number of its refusal, 0 where it is none; the outcome that its event has in the log, 0 for a refusal; and "Word 6"
 -- (Packed 6)
@@ -71,9 +70,9 @@ numbers_of (EndActivate p) = told_as released (activate_status p.code)
 numbers_of (NoteImage i) = told_as noted 0
 
 -- of what comes before the event's own rules
-abbrev pub refusal_of : Admission → ℕ
-refusal_of Admitted = 0
-refusal_of (Refused x) = number_of x
+abbrev pub refusal_of : Result Unit Refusal → ℕ
+refusal_of (Ok tt) = 0
+refusal_of (Err x) = number_of x
 
 -- ---- the table of refusals (Events 8)
 

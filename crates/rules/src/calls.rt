@@ -4,19 +4,19 @@ ghost use Rattle.board.specs.Description.{uuid_bytes};
 ghost use Rattle.rules.specs.Calls.{returned, says, no_caller, word_of, flags_of, described_of, features_of, info_of, inventory_of, may_prime, arrival_of, try_prime_of, try_same_of, prime_of, skip_right, fields_right, join_of, try_activate_of, activate_of, is_other, cancel_of, off_free, off_of, wake_of, on_of, function_of, answer_of, call_of};
 
 use crate::cells::{ActivateCell, CancelCell, PowerCell, PrimeCell};
-use crate::numbers::{Decoded, Function};
+use crate::numbers::Function;
 use crate::{Arrival, Move, Refusal, Registers, Waking};
-use board::{Component, digit};
-use board_record::{Record, State, Subject};
+use board::Component;
+use board_record::{Record, State};
 use codes::{CANCEL, Call, VERSION};
-use cpuset::CpuSet;
 
 // The caller goes on with X0, and 0 in the other registers.
+#[tactic(auto, unfolding(crate::specs::Calls::returned))]
 fn go_on(x0: u64) -> Move
     ensures { result ≡ returned x0 }
 {
     Move::Return(Registers {
-        x0: x0,
+        x0,
         x1: 0,
         x2: 0,
         x3: 0,
@@ -37,18 +37,18 @@ fn no_caller() -> Move
     Move::Refuse(Refusal::NotWellFormed)
 }
 
+#[tactic(auto, unfolding(crate::specs::Calls::features_of))]
 fn features(x1: u64) -> Move
     ensures { result ≡ features_of x1 }
 {
-    if x1 < VERSION {
-        return say(1);
+    if (VERSION..=CANCEL).contains(&x1) {
+        say(0)
+    } else {
+        say(1)
     }
-    if x1 > CANCEL {
-        return say(1);
-    }
-    say(0)
 }
 
+#[tactic(auto, unfolding(crate::specs::Calls::info_of))]
 fn info(x1: u64) -> Move
     ensures { result ≡ info_of x1 }
 {
@@ -56,120 +56,102 @@ fn info(x1: u64) -> Move
 }
 
 // Eight bytes of a UUID from byte i on, lowest first.
+#[tactic(auto, using(crate::proofs::Laws::words))]
 fn word(uuid: [u8; board::UUID_BYTES], i: usize) -> u64
     requires { i + 8 ≤ uuid_bytes }
     ensures { result ≡ word_of uuid i }
 {
-    let mut w: u64 = 0;
-    let mut n: usize = 0;
-    while n < 8 {
-        n += 1;
-        w = (uuid[i + 8 - n] as u64) + 256 * w;
-    }
-    w
+    let mut bytes = [0; 8];
+    bytes.copy_from_slice(&uuid[i..i + 8]);
+    u64::from_le_bytes(bytes)
 }
 
 fn flags(c: Component, pending: bool) -> u64
     ensures { result ≡ flags_of c pending }
 {
-    digit(c.capable) + 2 * digit(pending) + 4 * digit(c.may_reset) + 8 * digit(c.optional)
+    u64::from(c.capable)
+        + 2 * u64::from(pending)
+        + 4 * u64::from(c.may_reset)
+        + 8 * u64::from(c.optional)
 }
 
+#[tactic(auto, unfolding(crate::specs::Calls::described_of))]
 fn described(c: Component, pending: bool) -> Registers
     ensures { result ≡ described_of c pending }
 {
-    let uuid = c.uuid;
     Registers {
         x0: 0,
-        x1: word(uuid, 0),
-        x2: word(uuid, 8),
+        x1: word(c.uuid, 0),
+        x2: word(c.uuid, 8),
         x3: flags(c, pending),
     }
 }
 
+#[tactic(auto, unfolding(crate::specs::Calls::inventory_of))]
 fn inventory(rec: Record, x1: u64) -> Move
     ensures { result ≡ inventory_of rec x1 }
 {
-    if rec.informed {
-        let b = rec.board;
-        if x1 < b.components {
-            let pending = rec.pending;
-            return Move::Return(described(
-                board::numbered(b, x1),
-                board_record::is_pending(pending, x1),
-            ));
-        }
-        say(8)
+    if !rec.informed {
+        return say(7);
+    }
+    if x1 >= rec.board.components {
+        return say(8);
+    }
+    Move::Return(described(
+        board::numbered(rec.board, x1),
+        board_record::is_pending(rec.pending, x1),
+    ))
+}
+
+#[tactic(auto, unfolding(crate::specs::Calls::may_prime))]
+fn may_prime(rec: Record, id: u64) -> bool
+    ensures { result ≡ may_prime rec id }
+{
+    board::is_capable(rec.board, id) && board_record::is_pending(rec.pending, id)
+}
+
+// A caller that becomes held; where it resumes is kept only for a rendezvous with may_reset.
+#[tactic(auto, unfolding(crate::specs::Calls::arrival_of))]
+fn arrival(call: Call, keeps: bool) -> Arrival
+    ensures { result ≡ arrival_of call keeps }
+{
+    let (entry, context) = if keeps { (call.x3, call.x4) } else { (0, 0) };
+    Arrival {
+        component: call.x1,
+        cpu: call.cpu,
+        entry,
+        context,
+    }
+}
+
+#[tactic(auto, unfolding(crate::specs::Calls::try_prime_of))]
+fn try_prime(rec: Record, call: Call) -> Move
+    ensures { result ≡ try_prime_of rec call }
+{
+    if !may_prime(rec, call.x1) {
+        return say(7);
+    }
+    if board_record::version_of(rec.version, call.x1) < board::numbered(rec.board, call.x1).svn {
+        return say(3);
+    }
+    Move::StartPrime(arrival(call, false))
+}
+
+#[tactic(auto, unfolding(crate::specs::Calls::try_same_of))]
+fn try_same(rec: Record, call: Call) -> Move
+    ensures { result ≡ try_same_of rec call }
+{
+    if board_record::is_for(rec.state, call.x1) {
+        try_prime(rec, call)
     } else {
         say(7)
     }
 }
 
-fn may_prime(rec: Record, id: u64) -> bool
-    ensures { result ≡ may_prime rec id }
-{
-    let b = rec.board;
-    if board::is_capable(b, id) {
-        let pending = rec.pending;
-        return board_record::is_pending(pending, id);
-    }
-    false
-}
-
-// A caller that becomes held; where it resumes is kept only for a rendezvous with may_reset.
-fn arrival(call: Call, keeps: bool) -> Arrival
-    ensures { result ≡ arrival_of call keeps }
-{
-    if keeps {
-        Arrival {
-            component: call.x1,
-            cpu: call.cpu,
-            entry: call.x3,
-            context: call.x4,
-        }
-    } else {
-        Arrival {
-            component: call.x1,
-            cpu: call.cpu,
-            entry: 0,
-            context: 0,
-        }
-    }
-}
-
-fn try_prime(rec: Record, call: Call) -> Move
-    ensures { result ≡ try_prime_of rec call }
-{
-    let id = call.x1;
-    if may_prime(rec, id) {
-        let b = rec.board;
-        let version = rec.version;
-        let c = board::numbered(b, id);
-        if board_record::version_of(version, id) < c.svn {
-            return say(3);
-        }
-        return Move::StartPrime(arrival(call, false));
-    }
-    say(7)
-}
-
-fn try_same(rec: Record, call: Call) -> Move
-    ensures { result ≡ try_same_of rec call }
-{
-    let s = rec.state;
-    if board_record::is_for(s, call.x1) {
-        return try_prime(rec, call);
-    }
-    say(7)
-}
-
 fn prime(rec: Record, call: Call) -> Move
     ensures { result ≡ prime_of rec call }
 {
-    let s = rec.state;
-    let row = crate::cells::rule(s);
-    let cell = row.prime;
-    match cell {
+    match crate::cells::rule(rec.state).prime {
         PrimeCell::Try => try_prime(rec, call),
         PrimeCell::TrySame => try_same(rec, call),
         PrimeCell::Answers(k) => say(k),
@@ -178,81 +160,63 @@ fn prime(rec: Record, call: Call) -> Move
 }
 
 // The skip flag fits the component and the state.
+#[tactic(auto, unfolding(crate::specs::Calls::skip_right))]
 fn is_skip_right(c: Component, s: State, skip: bool) -> bool
     ensures { result ≡ skip_right c s skip }
 {
     if skip {
-        if board_record::is_gathering(s) {
-            return false;
-        }
-        return c.optional;
+        !board_record::is_gathering(s) && c.optional
+    } else {
+        !board_record::skips_rendezvous(s)
     }
-    !board_record::skips_rendezvous(s)
 }
 
 // The id is the state's, no flag stands above bit 0, and skip fits.
+#[tactic(auto, unfolding(crate::specs::Calls::fields_right))]
 fn are_fields_right(rec: Record, call: Call) -> bool
     ensures { result ≡ fields_right rec call }
 {
-    let s = rec.state;
-    if board_record::is_for(s, call.x1) {
-        if call.x2 > 1 {
-            return false;
-        }
-        let b = rec.board;
-        return is_skip_right(board::numbered(b, call.x1), s, call.x2 == 1);
-    }
-    false
+    board_record::is_for(rec.state, call.x1)
+        && call.x2 <= 1
+        && is_skip_right(board::numbered(rec.board, call.x1), rec.state, call.x2 == 1)
 }
 
-// Those that a rendezvous waits for: the powered CPUs, and none that is off.
-fn awaited(rec: Record) -> CpuSet
-    ensures { result ≡ rec.on }
-{
-    rec.on
-}
-
-// The caller joins those that are held: the last one starts the activation.
+// The caller joins those that are held: the last of the powered CPUs starts the activation.
+#[tactic(auto, unfolding(crate::specs::Calls::join_of))]
 fn join(rec: Record, call: Call) -> Move
     ensures { result ≡ join_of rec call }
 {
-    let b = rec.board;
-    let a = arrival(call, board::may_reset(b, call.x1));
-    let held = rec.held;
-    if cpuset::same(cpuset::with(held, call.cpu), awaited(rec)) {
+    let a = arrival(call, board::may_reset(rec.board, call.x1));
+    if cpuset::same(cpuset::with(rec.held, call.cpu), rec.on) {
         Move::StartTogether(a)
     } else {
         Move::Gather(a)
     }
 }
 
+#[tactic(auto, unfolding(crate::specs::Calls::try_activate_of))]
 fn try_activate(rec: Record, call: Call) -> Move
     ensures { result ≡ try_activate_of rec call }
 {
-    let s = rec.state;
-    let b = rec.board;
-    if are_fields_right(rec, call) {
-        if board::is_entry_right(b, call.x1, call.x3) {
-            if board_record::is_alone(s) {
-                return say(2);
-            }
-            if call.x2 == 1 {
-                return Move::StartAlone(arrival(call, false));
-            }
-            return join(rec, call);
-        }
+    if !are_fields_right(rec, call) {
+        return say(8);
+    }
+    if !board::is_entry_right(rec.board, call.x1, call.x3) {
         return say(10);
     }
-    say(8)
+    if board_record::is_alone(rec.state) {
+        return say(2);
+    }
+    if call.x2 == 1 {
+        return Move::StartAlone(arrival(call, false));
+    }
+    join(rec, call)
 }
 
 fn activate(rec: Record, call: Call) -> Move
     ensures { result ≡ activate_of rec call }
 {
-    let s = rec.state;
-    let row = crate::cells::rule(s);
-    let cell = row.activate;
-    match cell {
+    match crate::cells::rule(rec.state).activate {
         ActivateCell::Try => try_activate(rec, call),
         ActivateCell::Answers(k) => say(k),
         ActivateCell::NoCaller => no_caller(),
@@ -263,22 +227,17 @@ fn activate(rec: Record, call: Call) -> Move
 fn is_other(s: State, id: u64) -> bool
     ensures { result ≡ is_other s id }
 {
-    match board_record::subject_of(s) {
-        Subject::Nothing => false,
-        Subject::Of(c) => c != id,
-    }
+    matches!(board_record::subject_of(s), Some(c) if c != id)
 }
 
+#[tactic(auto, unfolding(crate::specs::Calls::cancel_of))]
 fn cancel(rec: Record, call: Call) -> Move
     ensures { result ≡ cancel_of rec call }
 {
-    let s = rec.state;
-    if is_other(s, call.x1) {
+    if is_other(rec.state, call.x1) {
         return say(8);
     }
-    let row = crate::cells::rule(s);
-    let cell = row.cancel;
-    match cell {
+    match crate::cells::rule(rec.state).cancel {
         CancelCell::ToIdle => Move::ToIdle,
         CancelCell::Withdraw => Move::Withdraw(call.x1),
         CancelCell::Answers(k) => say(k),
@@ -286,11 +245,11 @@ fn cancel(rec: Record, call: Call) -> Move
     }
 }
 
+#[tactic(auto, unfolding(crate::specs::Calls::off_free))]
 fn off_free(rec: Record, cpu: u64) -> Move
     ensures { result ≡ off_free rec cpu }
 {
-    let on = rec.on;
-    if cpuset::same(on, cpuset::only(cpu)) {
+    if cpuset::same(rec.on, cpuset::only(cpu)) {
         say(3)
     } else {
         Move::PowerOff(cpu)
@@ -300,10 +259,7 @@ fn off_free(rec: Record, cpu: u64) -> Move
 fn off(rec: Record, cpu: u64) -> Move
     ensures { result ≡ off_of rec cpu }
 {
-    let s = rec.state;
-    let row = crate::cells::rule(s);
-    let cell = row.power;
-    match cell {
+    match crate::cells::rule(rec.state).power {
         PowerCell::Free => off_free(rec, cpu),
         PowerCell::Frozen => say(3),
         PowerCell::NoCaller => no_caller(),
@@ -313,9 +269,7 @@ fn off(rec: Record, cpu: u64) -> Move
 fn wake(s: State, call: Call) -> Move
     ensures { result ≡ wake_of s call }
 {
-    let row = crate::cells::rule(s);
-    let cell = row.power;
-    match cell {
+    match crate::cells::rule(s).power {
         PowerCell::Free => Move::PowerOn(Waking {
             target: call.x1,
             entry: call.x2,
@@ -326,22 +280,20 @@ fn wake(s: State, call: Call) -> Move
     }
 }
 
+#[tactic(auto, unfolding(crate::specs::Calls::on_of))]
 fn on(rec: Record, call: Call) -> Move
     ensures { result ≡ on_of rec call }
 {
-    let b = rec.board;
-    if b.cpus <= call.x1 {
+    if rec.board.cpus <= call.x1 {
         return say(2);
     }
-    if board::good_entry(b.first, b.last, call.x2) {
-        let on = rec.on;
-        if cpuset::has(on, call.x1) {
-            return say(4);
-        }
-        let s = rec.state;
-        return wake(s, call);
+    if !board::good_entry(rec.board.first, rec.board.last, call.x2) {
+        return say(9);
     }
-    say(9)
+    if cpuset::has(rec.on, call.x1) {
+        return say(4);
+    }
+    wake(rec.state, call)
 }
 
 fn known(rec: Record, call: Call, f: Function) -> Move
@@ -360,29 +312,29 @@ fn known(rec: Record, call: Call, f: Function) -> Move
     }
 }
 
+#[tactic(auto, unfolding(crate::specs::Calls::answer_of))]
 fn answer(rec: Record, call: Call) -> Move
     ensures { result ≡ answer_of rec call }
 {
-    let Decoded::Known(f) = crate::numbers::decode(call.x0) else {
+    let Some(f) = crate::numbers::decode(call.x0) else {
         return say(1);
     };
     known(rec, call, f)
 }
 
 // A call: only a CPU that exists, is on and is not held has one.
+#[tactic(auto, unfolding(crate::specs::Calls::call_of))]
 pub(crate) fn call(rec: Record, call: Call) -> Move
     ensures { result ≡ call_of rec call }
 {
-    let on = rec.on;
-    let held = rec.held;
     if rec.board.cpus <= call.cpu {
         return Move::Refuse(Refusal::NoSuchCpu);
     }
-    if cpuset::has(on, call.cpu) {
-        if cpuset::has(held, call.cpu) {
-            return Move::Refuse(Refusal::CpuHeld);
-        }
-        return answer(rec, call);
+    if !cpuset::has(rec.on, call.cpu) {
+        return Move::Refuse(Refusal::CpuOff);
     }
-    Move::Refuse(Refusal::CpuOff)
+    if cpuset::has(rec.held, call.cpu) {
+        return Move::Refuse(Refusal::CpuHeld);
+    }
+    answer(rec, call)
 }

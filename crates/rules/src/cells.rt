@@ -5,6 +5,8 @@ ghost use Rattle.rules.specs.Table.{row_at, rule_of};
 
 use board_record::{STATES, State};
 
+// An enum for each call, and none over their kinds: specs/Calls.antt goes by these cases (`prime_by` and its like), which stay.
+
 // What PRIME does: the try, the try of the state's component alone, or a status -k.
 #[derive(Clone, Copy)]
 pub enum PrimeCell {
@@ -117,6 +119,7 @@ const RULES: [Row; STATES] = [
     },
 ];
 
+// By place, since `row_at` of specs/Table.antt has the whole table so.
 fn row_at(i: usize) -> Row
     requires { i < state_count }
     ensures { result ≡ row_at i }
@@ -125,9 +128,9 @@ fn row_at(i: usize) -> Row
 }
 
 // The row of a state.
+#[tactic(auto, using(crate::proofs::Table::rows))]
 pub(crate) fn rule(s: State) -> Row
     ensures { result ≡ rule_of s }
 {
-    let i = board_record::place_of(s);
-    row_at(i)
+    row_at(board_record::place_of(s))
 }

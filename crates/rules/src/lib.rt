@@ -9,7 +9,7 @@ mod reports;
 ghost use Rattle.std.specs.Prelude.{◌≡◌, []};
 ghost use Rattle.rules.specs.Statuses.{minus_of, number_of};
 ghost use Rattle.basics.specs.First.{first_of};
-ghost use Rattle.rules.specs.Decide.{admission_of, decide_of};
+ghost use Rattle.rules.specs.Decide.{admission_of, event_of, decide_of};
 ghost use Rattle.rules.specs.Moves.{refusal_of, admission_rows, numbers_of, Decided};
 
 use board_record::Record;
@@ -52,13 +52,6 @@ pub enum Refusal {
     CodeNotAllowed,
     NotCapable,
     StateComponent,
-}
-
-// Whether the rules of an event are asked at all.
-#[derive(Clone, Copy)]
-pub enum Admission {
-    Admitted,
-    Refused(Refusal),
 }
 
 // What a caller goes on with.
@@ -126,33 +119,39 @@ pub fn number(r: Refusal) -> u64
 }
 
 // A status -k, given without its sign, as a register holds it; 0 is 0.
+#[tactic(auto, unfolding(crate::specs::Statuses::minus_of))]
 pub fn minus(k: u64) -> u64
     ensures { result ≡ minus_of k }
 {
-    if k == 0 {
-        0
-    } else {
-        0xffff_ffff_ffff_ffff - (k - 1)
-    }
+    k.wrapping_neg()
 }
 
 // What every event is asked first, whatever it is: a well-formed record, and two resume tables of so many places.
 #[tactic(auto, using(crate::proofs::Admitted::admissions), unfolding(crate::specs::Decide::admission_of))]
-pub fn admit(rec: Record, entry_places: usize, context_places: usize) -> Admission
+pub fn admit(rec: Record, entry_places: usize, context_places: usize) -> Result<(), Refusal>
     ensures value { result ≡ admission_of rec entry_places context_places }
     ensures numbers { refusal_of result ≡ first_of (admission_rows rec entry_places context_places []) }
 {
-    let cpus = rec.board.cpus;
-    if board_record::is_well_formed(rec) {
-        if (entry_places as u64) < cpus {
-            return Admission::Refused(Refusal::TableShort);
-        }
-        if (context_places as u64) < cpus {
-            return Admission::Refused(Refusal::TableShort);
-        }
-        return Admission::Admitted;
+    if !board_record::is_well_formed(rec) {
+        return Err(Refusal::NotWellFormed);
     }
-    Admission::Refused(Refusal::NotWellFormed)
+    let cpus = rec.board.cpus;
+    if (entry_places as u64) < cpus || (context_places as u64) < cpus {
+        return Err(Refusal::TableShort);
+    }
+    Ok(())
+}
+
+// What an admitted event calls for.
+fn by_event(rec: Record, e: Event) -> Move
+    ensures { result ≡ event_of rec e }
+{
+    match e {
+        Event::Call(call) => calls::call(rec, call),
+        Event::Prime(report) => reports::prime(rec, report),
+        Event::Activate(report) => reports::activate(rec, report),
+        Event::Image(image) => reports::image(rec, image),
+    }
 }
 
 // What an event calls for, where the two resume tables have so many places.
@@ -161,12 +160,7 @@ pub fn decide(rec: Record, e: Event, entry_places: usize, context_places: usize)
     ensures decided { Decided rec e entry_places context_places (numbers_of result) }
 {
     match admit(rec, entry_places, context_places) {
-        Admission::Refused(x) => Move::Refuse(x),
-        Admission::Admitted => match e {
-            Event::Call(call) => calls::call(rec, call),
-            Event::Prime(report) => reports::prime(rec, report),
-            Event::Activate(report) => reports::activate(rec, report),
-            Event::Image(image) => reports::image(rec, image),
-        },
+        Err(x) => Move::Refuse(x),
+        Ok(()) => by_event(rec, e),
     }
 }

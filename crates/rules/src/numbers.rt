@@ -19,26 +19,21 @@ pub enum Function {
     CpuOn,
 }
 
-#[derive(Clone, Copy)]
-pub enum Decoded {
-    Known(Function),
-    Unknown,
-}
-
 // The function that the low 32 bits of X0 name.
-pub(crate) fn decode(x0: u64) -> Decoded
+#[tactic(auto, unfolding(crate::specs::Numbers::decode_of))]
+pub(crate) fn decode(x0: u64) -> Option<Function>
     ensures { result ≡ decode_of (function_number x0) }
 {
     match codes::function_number(x0) {
-        VERSION => Decoded::Known(Function::Version),
-        FEATURES => Decoded::Known(Function::Features),
-        GET_INFO => Decoded::Known(Function::GetInfo),
-        GET_INVENTORY => Decoded::Known(Function::GetInventory),
-        PRIME => Decoded::Known(Function::Prime),
-        ACTIVATE => Decoded::Known(Function::Activate),
-        CANCEL => Decoded::Known(Function::Cancel),
-        CPU_OFF => Decoded::Known(Function::CpuOff),
-        CPU_ON => Decoded::Known(Function::CpuOn),
-        _ => Decoded::Unknown,
+        VERSION => Some(Function::Version),
+        FEATURES => Some(Function::Features),
+        GET_INFO => Some(Function::GetInfo),
+        GET_INVENTORY => Some(Function::GetInventory),
+        PRIME => Some(Function::Prime),
+        ACTIVATE => Some(Function::Activate),
+        CANCEL => Some(Function::Cancel),
+        CPU_OFF => Some(Function::CpuOff),
+        CPU_ON => Some(Function::CpuOn),
+        _ => None,
     }
 }

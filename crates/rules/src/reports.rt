@@ -1,54 +1,32 @@
 // The two reports, and images.
-ghost use Rattle.std.specs.Prelude.{◌≡◌, ◌&&◌, [], ◌∷◌};
-ghost use Rattle.basics.specs.Every.{one_of};
-ghost use Rattle.board_record.specs.Record.{place_of, is_for};
-ghost use Rattle.rules.specs.Reports.{is_priming, is_activating, resumes_of, activate_allows, ending_of, prime_report_of, activate_report_of, image_of};
+ghost use Rattle.std.specs.Prelude.{◌≡◌};
+ghost use Rattle.rules.specs.Reports.{is_priming, is_activating, activate_allows, ending_of, prime_report_of, activate_report_of, image_of};
 
 use crate::{Image, Move, Refusal, Report};
-use board_record::{ALONE, PREPARING, Record, State, TOGETHER, WITHDRAWN};
+use board_record::{Record, State};
 use codes::BY_RESET;
 
-// A job is running for component id: the state is one of two, and about it.
-fn is_running(s: State, id: u64, one: usize, other: usize) -> bool
-    ensures { result ≡ (one_of (place_of s) (one ∷ other ∷ []) && is_for s id) }
-{
-    let place = board_record::place_of(s);
-    if place == one {
-        return board_record::is_for(s, id);
-    }
-    if place == other {
-        return board_record::is_for(s, id);
-    }
-    false
-}
-
-// A prime job, withdrawn or not.
+// A prime job is running for component id, withdrawn or not.
 fn is_priming(s: State, id: u64) -> bool
     ensures { result ≡ is_priming s id }
 {
-    is_running(s, id, PREPARING, WITHDRAWN)
+    matches!(s, State::Preparing(c) | State::Withdrawn(c) if c == id)
 }
 
-// An activate job, with rendezvous or without.
+// An activate job is running for component id, with rendezvous or without.
 fn is_activating(s: State, id: u64) -> bool
     ensures { result ≡ is_activating s id }
 {
-    is_running(s, id, TOGETHER, ALONE)
+    matches!(s, State::Together(c) | State::Alone(c) if c == id)
 }
 
-// In together with may_reset.
-fn resumes(alone: bool, reset: bool) -> bool
-    ensures { result ≡ resumes_of alone reset }
-{
-    if alone { false } else { reset }
-}
-
+#[tactic(auto, unfolding(crate::specs::Reports::activate_allows))]
 fn activate_allows(alone: bool, reset: bool, code: u64) -> bool
     ensures { result ≡ activate_allows alone reset code }
 {
     match code {
         1 => alone,
-        BY_RESET => resumes(alone, reset),
+        BY_RESET => !alone && reset,
         _ => codes::is_activate_code(code),
     }
 }
@@ -57,51 +35,48 @@ fn activate_allows(alone: bool, reset: bool, code: u64) -> bool
 fn ending(s: State, report: Report) -> Move
     ensures { result ≡ ending_of s report }
 {
-    if board_record::place_of(s) == WITHDRAWN {
-        Move::EndWithdrawn
-    } else {
-        Move::EndPrime(report)
+    match s {
+        State::Withdrawn(_) => Move::EndWithdrawn,
+        _ => Move::EndPrime(report),
     }
 }
 
+#[tactic(auto, unfolding(crate::specs::Reports::prime_report_of))]
 pub(crate) fn prime(rec: Record, report: Report) -> Move
     ensures { result ≡ prime_report_of rec report }
 {
-    let s = rec.state;
-    if is_priming(s, report.component) {
-        if codes::is_prime_code(report.code) {
-            return ending(s, report);
-        }
+    if !is_priming(rec.state, report.component) {
+        return Move::Refuse(Refusal::NoSuchJob);
+    }
+    if !codes::is_prime_code(report.code) {
         return Move::Refuse(Refusal::CodeNotAllowed);
     }
-    Move::Refuse(Refusal::NoSuchJob)
+    ending(rec.state, report)
 }
 
+#[tactic(auto, unfolding(crate::specs::Reports::activate_report_of))]
 pub(crate) fn activate(rec: Record, report: Report) -> Move
     ensures { result ≡ activate_report_of rec report }
 {
-    let s = rec.state;
-    let b = rec.board;
-    if is_activating(s, report.component) {
-        let reset = board::may_reset(b, report.component);
-        if activate_allows(board_record::is_alone(s), reset, report.code) {
-            return Move::EndActivate(report);
-        }
+    if !is_activating(rec.state, report.component) {
+        return Move::Refuse(Refusal::NoSuchJob);
+    }
+    let reset = board::may_reset(rec.board, report.component);
+    if !activate_allows(board_record::is_alone(rec.state), reset, report.code) {
         return Move::Refuse(Refusal::CodeNotAllowed);
     }
-    Move::Refuse(Refusal::NoSuchJob)
+    Move::EndActivate(report)
 }
 
+#[tactic(auto, unfolding(crate::specs::Reports::image_of))]
 pub(crate) fn image(rec: Record, image: Image) -> Move
     ensures { result ≡ image_of rec image }
 {
-    let b = rec.board;
-    let s = rec.state;
-    if board::is_capable(b, image.component) {
-        if board_record::is_for(s, image.component) {
-            return Move::Refuse(Refusal::StateComponent);
-        }
-        return Move::NoteImage(image);
+    if !board::is_capable(rec.board, image.component) {
+        return Move::Refuse(Refusal::NotCapable);
     }
-    Move::Refuse(Refusal::NotCapable)
+    if board_record::is_for(rec.state, image.component) {
+        return Move::Refuse(Refusal::StateComponent);
+    }
+    Move::NoteImage(image)
 }

@@ -6,37 +6,17 @@ mod words;
 ghost use Rattle.std.specs.Prelude.{◌≡◌};
 ghost use Rattle.reason.specs.Explained.{explained_of};
 
-use given::{File, Numeral};
 use history::DEPARTS;
-use log_book::Flaw;
-use reason::{Activate, Explained};
+use reason::Activate;
 use std::env::FillError;
 use std::io;
 use std::rt::{Env, Files};
-use words::{number, text};
+use words::Because;
 
 // One byte more than the longest description, and than the longest log: a file that fills it is too long, whatever follows.
 const BOARD_ROOM: usize = board::MOST_BYTES + 1;
 
 const LOG_ROOM: usize = log_book::MOST_BYTES + 1;
-
-fn log_refused(rt: &impl Print, refusal: u64, place: usize) -> io::Result<()> {
-    text(rt, b"log refused ")?;
-    number(rt, refusal)?;
-    text(rt, b" at ")?;
-    number(rt, place as u64)
-}
-
-fn flawed(rt: &impl Print, f: Flaw) -> io::Result<()> {
-    let refusal = f.refusal;
-    log_refused(rt, log_record::number(refusal), f.place)
-}
-
-fn refused(rt: &impl Print, what: &[u8], refusal: u64) -> io::Result<()> {
-    text(rt, what)?;
-    text(rt, b" refused ")?;
-    number(rt, refusal)
-}
 
 // The line of an answer.
 fn line(
@@ -45,18 +25,23 @@ fn line(
     log: &[u8],
     place: usize,
     a: Activate,
-    e: Explained,
+    e: Result<reason::Reason, reason::Unexplained>,
 ) -> io::Result<()>
     requires { e ≡ explained_of board.now log.now place a }
 {
     match e {
-        Explained::Because(x) => words::because(rt, x),
-        Explained::BoardRefused(x) => refused(rt, b"board", board::number(x)),
-        Explained::LogRefused(f) => flawed(rt, f),
-        Explained::Departs(k) => log_refused(rt, DEPARTS, k),
-        Explained::CallRefused(x) => refused(rt, b"call", rules::number(x)),
-    }?;
-    text(rt, b"\n")
+        Ok(x) => println!(rt; "{}", Because(x)),
+        Err(reason::Unexplained::Board(x)) => println!(rt; "board refused {}", board::number(x)),
+        Err(reason::Unexplained::Log(f)) => {
+            println!(rt;
+                "log refused {} at {}",
+                log_record::number(f.refusal),
+                f.place
+            )
+        }
+        Err(reason::Unexplained::Departs(k)) => println!(rt; "log refused {DEPARTS} at {k}"),
+        Err(reason::Unexplained::Call(x)) => println!(rt; "call refused {}", rules::number(x)),
+    }
 }
 
 fn why(rt: &impl Print, board: &[u8], log: &[u8], place: usize, a: Activate) -> io::Result<()> {
@@ -73,25 +58,49 @@ fn answer<R: Env + Files + Print>(
 ) -> io::Result<()> {
     let mut board = [0u8; BOARD_ROOM];
     let mut log = [0u8; LOG_ROOM];
-    match given::read_file(rt, stderr, 1, &mut board) {
-        File::Unread => Ok(()),
-        File::Bytes(m) => match given::read_file(rt, stderr, 2, &mut log) {
-            File::Unread => Ok(()),
-            File::Bytes(n) => why(rt, &board[..m], &log[..n], place, a),
-        },
-    }
+    let Some(m) = given::read_file(rt, stderr, 1, &mut board) else {
+        return Ok(());
+    };
+    let Some(n) = given::read_file(rt, stderr, 2, &mut log) else {
+        return Ok(());
+    };
+    why(rt, &board[..m], &log[..n], place, a)
 }
 
-// Whether there is an argument i, of any length; the program's own name is argument 0.
+// Whether there is an argument i, of any length; the program's own name is argument 0. By hand: `env::args` takes a heap, which no
+// program here has.
 fn has_argument(rt: &impl Env, i: usize) -> bool {
     !matches!(rt.arg(i, &mut []), Err(FillError::NotPresent))
 }
 
 // The number that argument i says; says so where it says none. Of one that is missing or does not fit there is no byte.
-fn said(rt: &impl Env, stderr: &impl Print, i: usize) -> Numeral {
+fn said(rt: &impl Env, stderr: &impl Print, i: usize) -> Option<u64> {
     let mut word = [0u8; given::WORD_ROOM];
     let n = rt.arg(i, &mut word).unwrap_or(0);
-    given::read_number(stderr, &word[..n])
+    match given::read_number(stderr, &word[..n]) {
+        Some(v) => Some(v),
+        None => None,
+    }
+}
+
+// The place, and the ACTIVATE there; says which word is the first that is no number.
+fn asked(rt: &impl Env, stderr: &impl Print) -> Option<(usize, Activate)> {
+    let place = said(rt, stderr, 3)? as usize;
+    let cpu = said(rt, stderr, 4)?;
+    let x1 = said(rt, stderr, 5)?;
+    let x2 = said(rt, stderr, 6)?;
+    let x3 = said(rt, stderr, 7)?;
+    let x4 = said(rt, stderr, 8)?;
+    Some((
+        place,
+        Activate {
+            cpu,
+            x1,
+            x2,
+            x3,
+            x4,
+        },
+    ))
 }
 
 fn main(rt: HostRuntime) -> io::Result<()> {
@@ -99,30 +108,8 @@ fn main(rt: HostRuntime) -> io::Result<()> {
         return rt.eprintln("usage: why BOARD LOG PLACE CPU X1 X2 X3 X4");
     }
     let stderr = rt.stderr();
-    let Numeral::Number(place) = said(&rt, &stderr, 3) else {
+    let Some((place, a)) = asked(&rt, &stderr) else {
         return Ok(());
     };
-    let Numeral::Number(cpu) = said(&rt, &stderr, 4) else {
-        return Ok(());
-    };
-    let Numeral::Number(x1) = said(&rt, &stderr, 5) else {
-        return Ok(());
-    };
-    let Numeral::Number(x2) = said(&rt, &stderr, 6) else {
-        return Ok(());
-    };
-    let Numeral::Number(x3) = said(&rt, &stderr, 7) else {
-        return Ok(());
-    };
-    let Numeral::Number(x4) = said(&rt, &stderr, 8) else {
-        return Ok(());
-    };
-    let a = Activate {
-        cpu: cpu,
-        x1: x1,
-        x2: x2,
-        x3: x3,
-        x4: x4,
-    };
-    answer(&rt, &stderr, place as usize, a)
+    answer(&rt, &stderr, place, a)
 }

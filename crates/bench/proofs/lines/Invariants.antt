@@ -1,5 +1,5 @@
 -- By the loop's invariant: the record is that replayed to place k, and the story that of the k records before it; so each turn is `turn_at`.
-use Rattle.std.proofs.Common.{◌≡◌, ◌-◌, ◌≤◌}
+use Rattle.std.proofs.Common.{◌≡◌}
 use Rattle.log_book.specs.Log.{past_of}
 use Rattle.reader.specs.Story.{story_of}
 use Rattle.trace.specs.Turn.{replayed_to}
@@ -7,10 +7,6 @@ use Rattle.bench.proofs.lines.Given as goal
 
 abbrev pub invariant-loop-k : goal.invariant-loop-k
 invariant-loop-k g l = record {
-  among : l.k ≤ l.n;
   replayed : l.rec ≡ replayed_to l.b l.log l.k;
   told : l.story ≡ story_of (past_of l.log l.k);
 }
-
-abbrev pub decreases-loop-k : goal.decreases-loop-k
-decreases-loop-k g l = l.n - l.k

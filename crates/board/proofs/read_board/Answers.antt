@@ -1,31 +1,28 @@
--- One case for each verdict of `shape`, both giving `read_of`; the number follows from it, and that it writes back, since the slice holds bytes.
-use mathlib.Core.Path.{sym, ◌∙◌}
-use native.Mathlib.Omega.{arith}
-use Rattle.bitfield.specs.Bits.{AreBytes}
-use Rattle.board.specs.Packed.{board_at}
-use Rattle.board.proofs.Laws.{components-most, shape-accepted, read-shaped, read-unshaped}
+-- Each end gives `read_of`: by the first test that failed, or what both let through. The number follows from it, and that it writes
+-- back, since the slice holds bytes.
+use Rattle.std.proofs.Common.{arith, sym, ◌∙◌, ◌≡◌, List, ℕ, Result}
+use Rattle.std.proofs.lemmas.Result.{err_from_is_err_and}
+use Rattle.board.specs.Packed.{read_of}
+use Rattle.board.specs.declared.Board.{Board}
+use Rattle.board.specs.declared.Refusal.{Refusal}
+use Rattle.board.proofs.Laws.{read-shaped, read-misshaped, read-broken}
 use Rattle.board.proofs.Round.{read_back}
 use Rattle.board.proofs.Numbers.{read-given}
 use Rattle.board.proofs.read_board.Goals as goal
-use Rattle.board.proofs.read_board.Goals.{After-shared_slice_known-1}
 
-pub board_at-b-requires : goal.board_at-b-requires
-board_at-b-requires c = omega (arith, (shape-accepted _ (sym c.shape.ensures ∙ c.in-Accepted.is)).whole)
+pub returns-in_err-shape : goal.returns-in_err-shape
+returns-in_err-shape c =
+    let p = err_from_is_err_and c.from_residual.result c.from_residual.ensures.1 in
+    let e : c.from_residual.result ≡ read_of c.args.s.now = p.1 ∙ rw p.2 (read-misshaped _ _ (sym c.in_err-shape.ensures)) in
+    record { value = e; writes_back = read_back _ _ (λ i. omega (arith, c.type_inv.s i)) e; numbers = read-given _ _ e }
 
-pub judged-requires : goal.judged-requires
-unfolding board_at
-judged-requires c = rw c.board_at-b.ensures (components-most _)
+pub returns-in_err-judged : goal.returns-in_err-judged
+returns-in_err-judged c =
+    let p = err_from_is_err_and c.from_residual-in_err-judged.result c.from_residual-in_err-judged.ensures.1 in
+    let e : c.from_residual-in_err-judged.result ≡ read_of c.args.s.now = p.1 ∙ rw p.2 (read-broken _ _ _ (sym c.shape.ensures ∙ c.in_ok-shape.was) c.board_at-b.ensures (sym c.in_err-judged.ensures)) in
+    record { value = e; writes_back = read_back _ _ (λ i. omega (arith, c.type_inv.s i)) e; numbers = read-given _ _ e }
 
--- its type says that the slice holds bytes
-known : (c : After-shared_slice_known-1) → AreBytes c.args.s.now
-known c i = omega (arith, c.type_inv.s i)
-
-pub returns-in-Accepted : goal.returns-in-Accepted
-returns-in-Accepted c =
-    let e = c.settled.ensures ∙ read-shaped _ _ _ (sym c.shape.ensures ∙ c.in-Accepted.is) c.board_at-b.ensures c.judged.ensures in
-    record { value = e; writes_back = read_back _ _ (known (goal.at.returns-in-Accepted c).After-shared_slice_known-1) e; numbers = read-given _ _ e }
-
-pub returns-in-Refused : goal.returns-in-Refused
-returns-in-Refused c =
-    let e = c.refused.ensures ∙ read-unshaped _ _ (sym c.shape.ensures ∙ c.in-Refused.is) in
-    record { value = e; writes_back = read_back _ _ (known (goal.at.returns-in-Refused c).After-shared_slice_known-1) e; numbers = read-given _ _ e }
+pub returns : goal.returns
+returns c =
+    let e = read-shaped _ _ (sym c.shape.ensures ∙ c.in_ok-shape.was) c.board_at-b.ensures (sym c.judged.ensures ∙ c.in_ok-judged.was) in
+    record { value = e; writes_back = read_back _ _ (λ i. omega (arith, c.type_inv.s i)) e; numbers = read-given _ _ e }

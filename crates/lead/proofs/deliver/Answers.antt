@@ -1,54 +1,50 @@
 -- A call is one with all that is left of the delivery; where it gives a record, some of that was used, and the next turn has the rest.
-use Rattle.std.proofs.Common.{◌≡◌, ℕ, ◌+◌, ◌-◌, ◌<◌, ◌≤◌, List, length, take, drop, length-drop, arith, sym, ap, subst, ◌∙◌}
-use lib.Seq.{take_all, drop-drop}
+use Rattle.std.specs.Prelude.{None, Ok, Some}
+use Rattle.std.proofs.Common.{◌≡◌, ℕ, ◌-◌, ◌<◌, List, length, take, drop, length-drop, arith, sym, ap, subst, ◌∙◌, rules}
+use lib.Seq.{take_all}
 use Rattle.log_record.specs.declared.LogRecord.{LogRecord}
 use Rattle.deliveries.specs.Taken.{taken_of}
-use Rattle.deliveries.specs.Shown.{delivered}
-use Rattle.deliveries.specs.declared.Given.TheVariants.{Nothing, Record, Refused}
 use Rattle.deliveries.specs.declared.Lead.{Lead}
-use Rattle.deliveries.specs.declared.Refusal.{Refusal}
 use Rattle.deliveries.specs.declared.Taken.{Taken}
 use Rattle.deliveries.proofs.Readers.{uses}
 use Rattle.deliveries.proofs.Host.{Going, going-record, going-nothing, going-refused, going_done}
 use Rattle.lead.proofs.deliver.Goals as goal
 
--- from the place `at` of the delivery on, the reader l is handed what is left, and answers t
-module _ (first : Lead) (d : List ℕ) (l : Lead) (at : ℕ) (t : Taken) (within : at ≤ length d) (going : Going first d l (drop at d))
-    (called : t ≡ taken_of l (take (length d - at) (drop at d))) where
-  all-left : t ≡ taken_of l (drop at d)
-  all-left = called ∙ ap (taken_of l) (take_all (length d - at) (drop at d) (omega (arith, length-drop at d)))
+-- the reader l is handed what is left, and t is its answer: the next turn has the rest of that
+module _ (first : Lead) (d : List ℕ) (l : Lead) (left : List ℕ) (going : Going first d l left) where
+  abbrev onward : Taken → Type 0
+  onward t = let rest = take (length left - t.used) (drop t.used left) in (length rest < length left) × Going first d t.lead rest
 
-  ended-by-nothing : t.given ≡ Nothing → t.lead ≡ (delivered first d).lead
-  ended-by-nothing e = ap (λ (x : Taken). x.lead) all-left ∙ going-nothing first d l (drop at d) going (ap (λ (x : Taken). x.given) (sym all-left) ∙ e)
+  turned : (t : Taken) → t ≡ taken_of l left → (r : LogRecord) → t.given ≡ Ok (Some r) → onward t
+  turned t called r e =
+      let given : (taken_of l left).given ≡ Ok (Some r) = ap (λ (x : Taken). x.given) (sym called) ∙ e in
+      let n : ℕ = (taken_of l left).used in
+      let used = (uses l left).some r given in
+      subst onward (sym called)
+      (rw (take_all (length left - n) (drop n left) (omega (arith, length-drop n left)))
+      (omega (arith, used.0, used.1, length-drop n left), going-record first d l left going r given))
 
-  ended-by-refusal : (x : Refusal) → t.given ≡ Refused x → t.lead ≡ (delivered first d).lead
-  ended-by-refusal x e = ap (λ (y : Taken). y.lead) all-left ∙ going-refused first d l (drop at d) going x (ap (λ (y : Taken). y.given) (sym all-left) ∙ e)
+pub returns-in-Ok-None : goal.returns-in-Ok-None
+returns-in-Ok-None g c =
+    let inner = rw c.in-Ok-None.is at c.in-Ok-None.field-0-is in
+    let h : c.take-taken.result.given ≡ Ok None = c.in-Ok-None.is ∙ ap Ok inner in
+    rw c.take-taken.ensures.value (going-nothing _ _ _ _ c.loop-rest.invariant (rw c.take-taken.ensures.value at h))
 
-  turned : (r : LogRecord) → t.given ≡ Record r → (0 < t.used) × (at + t.used ≤ length d) × Going first d t.lead (drop (at + t.used) d)
-  turned r e =
-      let given = ap (λ (x : Taken). x.given) (sym all-left) ∙ e in
-      let used = (uses l (drop at d)).some r given in
-      subst (λ (x : Taken). (0 < x.used) × (at + x.used ≤ length d) × Going first d x.lead (drop (at + x.used) d)) (sym all-left)
-      (used.0, omega (arith, used.1, length-drop at d), rw (← drop-drop) (going-record first d l (drop at d) going r given))
+pub returns-in-Err : goal.returns-in-Err
+returns-in-Err g c =
+    rw c.take-taken.ensures.value (going-refused _ _ _ _ c.loop-rest.invariant _ (rw c.take-taken.ensures.value at c.in-Err.is))
 
-pub returns-in-Nothing : goal.returns-in-Nothing
-returns-in-Nothing g c =
-    ended-by-nothing _ _ _ _ _ c.loop-at.invariant.within c.loop-at.invariant.going c.take-taken.ensures.value c.in-Nothing.is
+pub loop-rest-smaller : goal.loop-rest-smaller
+loop-rest-smaller g c =
+    let inner = rw c.in-Ok-Some.is at c.in-Ok-Some.field-0-is in
+    let h : c.take-taken.result.given ≡ Ok (Some c.in-Ok-Some.r) = c.in-Ok-Some.is ∙ ap Ok inner in
+    (turned _ _ _ _ c.loop-rest.invariant _ c.take-taken.ensures.value _ h).0
 
-pub returns-in-Refused : goal.returns-in-Refused
-returns-in-Refused g c =
-    ended-by-refusal _ _ _ _ _ c.loop-at.invariant.within c.loop-at.invariant.going c.take-taken.ensures.value _ c.in-Refused.is
-
-pub loop-at-smaller : goal.loop-at-smaller
-loop-at-smaller g c =
-    let t = turned _ _ _ _ _ c.loop-at.invariant.within c.loop-at.invariant.going c.take-taken.ensures.value _ c.in-Record.is in
-    omega (arith, t.0, t.1)
-
-pub loop-at-preserved : goal.loop-at-preserved
-loop-at-preserved g c =
-    let t = turned _ _ _ _ _ c.loop-at.invariant.within c.loop-at.invariant.going c.take-taken.ensures.value _ c.in-Record.is in
-    record { within = t.1; going = t.2 }
+pub loop-rest-preserved : goal.loop-rest-preserved
+loop-rest-preserved g c =
+    let inner = rw c.in-Ok-Some.is at c.in-Ok-Some.field-0-is in
+    let h : c.take-taken.result.given ≡ Ok (Some c.in-Ok-Some.r) = c.in-Ok-Some.is ∙ ap Ok inner in
+    (turned _ _ _ _ c.loop-rest.invariant _ c.take-taken.ensures.value _ h).1
 
 pub returns : goal.returns
-returns g c =
-    going_done _ _ _ _ c.loop-at.invariant.going (omega (arith, length-drop c.loop-at.at c.args.delivery.now, c.loop-at-test.false))
+returns g c = going_done _ _ _ _ c.loop-rest.invariant (search rules)

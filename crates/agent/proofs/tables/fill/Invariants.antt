@@ -1,5 +1,4 @@
 -- By the loop's invariant: the table is as it was, written at these CPUs among the first i; the places left, if any, lie past its end.
-use Prim.Native.Nat.{◌≤◌, ◌-◌}
 use mathlib.Core.Path.{◌≡◌}
 use lib.ListN.{length}
 use Rattle.cpuset.specs.Set.{has_of}
@@ -7,7 +6,4 @@ use Rattle.agent.specs.Step.{written}
 use Rattle.agent.proofs.tables.fill.Given as goal
 
 abbrev pub invariant-loop-i : goal.invariant-loop-i
-invariant-loop-i l = (l.i ≤ l.n) × (length l.table ≡ length l.initial.table) × (l.table ≡ written l.i (has_of l.cpus) l.from l.initial.table)
-
-abbrev pub decreases-loop-i : goal.decreases-loop-i
-decreases-loop-i l = l.n - l.i
+invariant-loop-i l = (length l.table ≡ length l.initial.table) × (l.table ≡ written l.i (has_of l.cpus) l.from l.initial.table)

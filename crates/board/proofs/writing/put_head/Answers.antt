@@ -9,14 +9,14 @@ use borrow.Author.Rules.{rules}
 use Rattle.board.proofs.writing.put_head.Goals as goal
 use Rattle.board.proofs.writing.put_head.Goals.{Start}
 
-fit : (c : Start) → Fit head_widths (head_values c.args.b)
+fit : (c : Start) → Fit head_widths (head_values c.args.b.now)
 fit c = search rules
 
 pub returns : goal.returns
 returns c =
-    let a = c.args in
-    let x = length-bytes 2 (counts_number a.b * 32) in
-    let y = length-bytes 8 a.b.first in
-    let z = length-bytes 8 a.b.last in
-    rw (head-bytes a.b (fit (goal.at.returns c).Start))
+    let b = c.args.b.now in
+    let x = length-bytes 2 (counts_number b * 32) in
+    let y = length-bytes 8 b.first in
+    let z = length-bytes 8 b.last in
+    rw (head-bytes b (fit (goal.at.returns c).Start))
     (put_three _ _ _ _ _ _ _ _ _ _ c.put_number.ensures c.put_number-2.ensures c.put_number-3.ensures (omega arith) (omega arith) (omega arith))

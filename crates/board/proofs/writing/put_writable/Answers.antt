@@ -1,15 +1,9 @@
-use mathlib.Core.Path.{refl}
-use Rattle.bitfield.proofs.Laws.{put-none}
-use Rattle.board.proofs.Laws.{no_room, all-written}
+use Rattle.board.proofs.Laws.{all-written}
 use borrow.Author.Rules.{rules}
 use Rattle.board.proofs.writing.put_writable.Goals as goal
-
-pub returns-then-buf-n : goal.returns-then-buf-n
-returns-then-buf-n c = let a = c.args in
-    record { value = no_room a.buf.now a.b c.if-buf-n.true; buf_after = put-none a.buf.now; part_length = refl; described_if = tt }
 
 pub returns : goal.returns
 returns c =
     let each = c.put_components.ensures.each_typed in
-    let w = all-written c.args.buf.now c.args.b _ _ c.if-buf-n.false c.put_head.ensures c.put_components.ensures.buf_after each in
+    let w = all-written c.args.buf.now c.args.b.now _ _ c.if-buf-n.false c.put_head.ensures c.put_components.ensures.buf_after each in
     record { value = w.0; buf_after = w.1.0; part_length = w.1.1; described_if = record { first = search rules; last = search rules; each = each } }

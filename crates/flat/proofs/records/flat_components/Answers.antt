@@ -9,16 +9,16 @@ use Rattle.flat.proofs.records.flat_components.Goals as goal
 
 pub loop-i-init : goal.loop-i-init
 unfolding firsts
-loop-i-init c = (search rules, rw c.blank-all.ensures)
+loop-i-init c = rw c.blank-all.ensures
 
 pub loop-i-preserved : goal.loop-i-preserved
 loop-i-preserved c =
     let l = c.loop-i in
-    (search rules, rw (l.invariant.1, c.flat_component.ensures) (table_more _ most_components blank_flat l.i (search rules)))
+    rw (l.invariant, c.flat_component.ensures) (table_more _ most_components blank_flat l.i (search rules))
 
 pub returns : goal.returns
 unfolding flat_components
 returns c =
     let l = c.loop-i in
     let e : l.i ≡ most_components = omega arith in
-    rw (l.invariant.1, e) (table-full _ most_components blank_flat)
+    rw (l.invariant, e) (table-full _ most_components blank_flat)

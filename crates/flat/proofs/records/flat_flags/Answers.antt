@@ -1,22 +1,8 @@
--- By the loop's invariant: the first i places hold their flags' digits and the rest are 0; at the end the table is full.
-use mathlib.Core.Path.{◌≡◌, refl}
-use native.Mathlib.Omega.{arith}
-use borrow.Author.Rules.{rules}
-use Rattle.basics.specs.Places.{firsts, table_more, table-full}
+use Rattle.std.proofs.Common.{false, rules}
 use Rattle.board.specs.Description.{most_components}
+use Rattle.board.specs.Packed.{digit_of}
+use Rattle.flat.proofs.Lists.{mapped}
 use Rattle.flat.proofs.records.flat_flags.Goals as goal
 
-pub loop-i-init : goal.loop-i-init
-unfolding firsts
-loop-i-init c = (search rules, refl)
-
-pub loop-i-preserved : goal.loop-i-preserved
-loop-i-preserved c =
-    let l = c.loop-i in
-    (search rules, rw (l.invariant.1, c.digit.ensures) (table_more _ most_components 0 l.i (search rules)))
-
 pub returns : goal.returns
-returns c =
-    let l = c.loop-i in
-    let e : l.i ≡ most_components = omega arith in
-    rw (l.invariant.1, e) (table-full _ most_components 0)
+returns c = mapped _ digit_of _ _ _ most_components false 0 c.map.ensures.items (λ p x y q h. search rules)

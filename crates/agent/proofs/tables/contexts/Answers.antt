@@ -1,4 +1,0 @@
-use Rattle.agent.proofs.tables.contexts.Goals as goal
-
-pub returns-in-Given : goal.returns-in-Given
-returns-in-Given c = rw c.in-Given.is

@@ -1,7 +1,0 @@
-use Rattle.board.proofs.reading.settled.Goals as goal
-
-pub returns-in-Kept : goal.returns-in-Kept
-returns-in-Kept c = rw c.in-Kept.is
-
-pub returns-in-Broken : goal.returns-in-Broken
-returns-in-Broken c = rw c.in-Broken.is c.refused.ensures
