@@ -103,7 +103,7 @@ fn joined(rec: Record, s: State, a: Arrival) -> Record
 {
     Record {
         state: s,
-        held: cpuset::with(rec.held, a.cpu),
+        held: rec.held.with(a.cpu),
         entry: put(rec.entry, a.cpu, a.entry),
         context: put(rec.context, a.cpu, a.context),
         ..rec
@@ -124,7 +124,7 @@ fn settled(rec: Record, s: State) -> Record
 {
     Record {
         state: s,
-        held: cpuset::none(),
+        held: CpuSet::none(),
         entry: [0; board::MOST_CPUS],
         context: [0; board::MOST_CPUS],
         ..rec
@@ -142,7 +142,7 @@ fn freed(cpus: CpuSet, x0: u64, x1: u64) -> Release
 fn cancelled(rec: Record) -> Release
     ensures { result ≡ cancelled_of rec }
 {
-    if board_record::is_gathering(rec.state) {
+    if rec.state.is_gathering() {
         freed(rec.held, rules::minus(CANCELLED), 0)
     } else {
         Release::Nobody
@@ -183,7 +183,7 @@ fn power_off(rec: Record, cpu: u64) -> Stepped
     ensures { result ≡ power_off_of rec cpu }
 {
     accepted(
-        powered(rec, cpuset::without(rec.on, cpu)),
+        powered(rec, rec.on.without(cpu)),
         Caller::Gone,
         Release::Nobody,
     )
@@ -193,9 +193,9 @@ fn power_on(rec: Record, w: Waking) -> Stepped
     ensures { result ≡ power_on_of rec w }
 {
     accepted(
-        powered(rec, cpuset::with(rec.on, w.target)),
+        powered(rec, rec.on.with(w.target)),
         success(0),
-        Release::Resumed(cpuset::only(w.target)),
+        Release::Resumed(CpuSet::only(w.target)),
     )
 }
 

@@ -12,7 +12,7 @@ fn resumed(r: Release) -> CpuSet
 {
     match r {
         Release::Resumed(cpus) => cpus,
-        _ => cpuset::none(),
+        _ => CpuSet::none(),
     }
 }
 
@@ -21,11 +21,12 @@ pub(crate) fn resuming(o: Result<Answer, Refusal>) -> CpuSet
     ensures { result ≡ resuming_of o }
 {
     match o {
-        Err(_) => cpuset::none(),
+        Err(_) => CpuSet::none(),
         Ok(a) => resumed(a.release),
     }
 }
 
+// Where a CPU resumes: one that is switched on where its caller says; none, one that was held where it said itself.
 pub(crate) fn source_of(m: Move) -> Option<Waking>
     ensures { result ≡ source_of m }
 {
@@ -58,7 +59,7 @@ pub(crate) fn fill(cpus: CpuSet, from: &[u64; board::MOST_CPUS], table: &mut [u6
     ensures { table.new ≡ filled cpus from.now table.old }
 {
     for i in 0..table.len().min(board::MOST_CPUS) {
-        if cpuset::has(cpus, i as u64) {
+        if cpus.has(i as u64) {
             table[i] = from[i];
         }
     }

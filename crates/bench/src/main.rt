@@ -9,6 +9,7 @@ ghost use Rattle.log_book.specs.Log.{checked_of, record_at, said};
 ghost use Rattle.trace.specs.Turn.{turn_at};
 
 use board::Board;
+use board_record::Record;
 use log_book::Flaw;
 use log_record::LogRecord;
 use std::env::FillError;
@@ -42,7 +43,7 @@ fn lines(rt: &impl Print, board: &[u8], b: Board, log: &[u8], n: usize) -> io::R
     requires { (read_of board.now ≡ Ok b) × (checked_of log.now 0 ≡ Ok n) }
 {
     println!(rt; "place cpu event arg1 arg2 outcome word6 agent reader")?;
-    let mut rec = board_record::fresh(b);
+    let mut rec = Record::fresh(b);
     let mut story = reader::opening();
     for k in 0..n {
         let r = log_book::said_at(log, k);
@@ -58,18 +59,14 @@ fn lines(rt: &impl Print, board: &[u8], b: Board, log: &[u8], n: usize) -> io::R
 fn log_refused(rt: &impl Print, log: &[u8], f: Flaw) -> io::Result<()>
     requires { checked_of log.now 0 ≡ Err f }
 {
-    println!(rt;
-        "log refused {} at {}",
-        log_record::number(f.refusal),
-        f.place
-    )
+    println!(rt; "log refused {} at {}", u64::from(f.refusal), f.place)
 }
 
 // The line of a board that is refused.
 fn board_refused(rt: &impl Print, board: &[u8], x: board::Refusal) -> io::Result<()>
     requires { read_of board.now ≡ Err x }
 {
-    println!(rt; "board refused {}", board::number(x))
+    println!(rt; "board refused {}", u64::from(x))
 }
 
 fn bench(rt: &impl Print, board: &[u8], log: &[u8]) -> io::Result<()> {

@@ -74,9 +74,9 @@ pub(crate) struct Answer(pub(crate) Replayed);
 impl fmt::Display for Answer {
     fn fmt<W: fmt::Write>(&self, f: &mut fmt::Formatter<W>) -> fmt::Result {
         match self.0 {
-            Replayed::Refused(x) => write!(f, "refused-{} 0", rules::number(x)),
+            Replayed::Refused(x) => write!(f, "refused-{} 0", u64::from(x)),
             Replayed::Logged(r) => write!(f, "{}", Logged(r)),
-            Replayed::Unknown => write!(f, "refused-{} 0", log_record::number(Refusal::Unknown)),
+            Replayed::Unknown => write!(f, "refused-{} 0", u64::from(Refusal::Unknown)),
         }
     }
 }

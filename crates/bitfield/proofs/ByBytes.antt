@@ -110,8 +110,8 @@ turned s y b h e =
     low_first y ∙ ap reverse all ∙ reverse-append more r ∙ ap (λ (t : List ℕ). t ++ reverse more) (reverse-reverse s)
 
 -- bytes that are read in the other order and swapped are the upper ones of a word
-pub turned-back : (s : List ℕ) (y x : ℕ) → AreBytes s → length s ≤ widest_bytes → y ≡ fold (λ v b. bit_or (v * 2 ^ 8 % 2 ^ 64) b) 0 (reverse s) → x ≡ swap_bytes w64 y → x < 2 ^ widest → x / 2 ^ (8 * (widest_bytes - length s)) ≡ value_at s 0 (8 * length s)
-turned-back s y x b h e q lt =
+pub swapped-back : (s : List ℕ) (y x : ℕ) → AreBytes s → length s ≤ widest_bytes → y ≡ fold (λ v b. bit_or (v * 2 ^ 8 % 2 ^ 64) b) 0 (reverse s) → x ≡ swap_bytes w64 y → x < 2 ^ widest → x / 2 ^ (8 * (widest_bytes - length s)) ≡ value_at s 0 (8 * length s)
+swapped-back s y x b h e q lt =
     let n = length s in
     let rest = 8 * (widest_bytes - n) in
     let l = to_le_bytes w64 y in

@@ -5,8 +5,8 @@ use mathlib.Core.List.{List, [], ◌++◌, append_assoc, append-nil}
 use native.Mathlib.Nat.{pow-suc, pow-zero, add-suc, add-zero, mul_assoc, add_assoc, mul-suc, div-div-eq-div-mul, mod-eq_of_lt}
 use native.Mathlib.Omega.{arith}
 use native.Mathlib.Numerals.{add-one}
-use lib.ListN.{length, get_or, take, drop, length-append, length-drop, take-append-drop, get_or-append, get_or-eq_default}
-use lib.Seq.{get_or-append-add, paste, length-take-le, drop-drop, drop-append-add, take-length, take_at}
+use lib.ListN.{length, get_or, take, drop, length-append, length-drop, take-append-drop, get_or-eq_default}
+use lib.Seq.{paste, length-take-le, drop-drop, drop-append-add, take-length, take_at}
 use lib.Pow.{pow_mono, pow_pos}
 use Rattle.std.proofs.lemmas.Nat.{one_shl}
 use mathlib.Core.Bool.{Bool, true, false}
@@ -108,19 +108,6 @@ put-head d k j l e h = omega (arith, length-append (take k d) l, length-take-le 
 pub take_put : (d : List ℕ) (k j : ℕ) (l : List ℕ) → j ≡ k + length l → j ≤ length d → take j (put d k l) ≡ take k d ++ l
 unfolding put
 take_put d k j l e h = take_at (take k d ++ l) (drop (k + length l) d) j (put-head d k j l e h)
-
--- what was written among bytes is bytes
-pub put-are-bytes : (d : List ℕ) (k : ℕ) (l : List ℕ) → k + length l ≤ length d → AreBytes (put d k l) → AreBytes l
-unfolding put
-put-are-bytes d k l h b i =
-    lt-cases i (length l)
-    (λ m.
-    let n = length-take-le k d (omega arith) in
-    let e : get_or (take k d ++ l ++ drop (k + length l) d) (length (take k d) + i) 0 ≡ get_or l i 0 =
-    get_or-append (take k d ++ l) (drop (k + length l) d) 0 (length (take k d) + i) (omega (arith, length-append (take k d) l))
-    ∙ get_or-append-add (take k d) l i 0 in
-    rw e at (b (length (take k d) + i)))
-    (λ m. rw (get_or-eq_default l 0 {n = i} m) (omega arith))
 
 -- what stands past a write is as it was
 pub drop-put : (d : List ℕ) (k j n : ℕ) (l : List ℕ) → j ≡ k + length l → j ≤ length d → drop (j + n) (put d k l) ≡ drop (j + n) d

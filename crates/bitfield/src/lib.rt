@@ -59,7 +59,8 @@ fn joined(s: &[u8], off: usize, width: usize) -> u64
     (first << rest) + (u64::from(s[WIDEST_BYTES]) >> (8 - rest))
 }
 
-// The number that the width bits from bit at on write. Every reader goes through here.
+// The number that the width bits from bit at on write; none where they are more than a word's or lie outside the slice. Every reader
+// of a field goes through here.
 pub fn read(s: &[u8], at: usize, width: usize) -> Option<u64>
     ensures { result ≡ field_at s.now at width }
 {

@@ -17,7 +17,7 @@ use Rattle.bitfield.specs.Layout.{join, Fit}
 use Rattle.bitfield.proofs.Laws.{value-lt, length-bytes, put-none, put-put, take_put}
 use Rattle.bitfield.proofs.Round.{join_one, bytes-join}
 use Rattle.board.specs.Description.{most_components, most_cpus, component_of, is_capable, blank_past, unless, within_limit, counts_of, Counted, judged_of}
-use Rattle.board.specs.Packed.{length_of, components_in, board_at, reserved_clear, shape_of, settle, read_of, digit_of, flag_in, flags_number, head_widths, head_values, tail_widths, tail_values, head_length, tail_length, head_bytes, component_bytes, component_length, bytes_at, bytes_of, writable_of, is_kept, is_writable, board_stands, length_in, put_by, put_of, buffer_of, part_by, part_of, Typed, EachTyped}
+use Rattle.board.specs.Packed.{length_of, components_in, board_at, reserved_clear, shape_of, read_of, digit_of, flag_in, flags_number, head_widths, head_values, tail_widths, tail_values, head_length, tail_length, head_bytes, component_bytes, component_length, bytes_at, bytes_of, writable_of, is_kept, is_writable, board_stands, length_in, put_by, put_of, buffer_of, part_by, part_of, Typed, EachTyped}
 use Rattle.board.specs.declared.Component.{Component}
 use Rattle.board.specs.declared.Board.{Board}
 use Rattle.board.specs.declared.Refusal.{Refusal}
@@ -45,7 +45,7 @@ pub record Shaped (s : List ℕ) : Type 0 where
   pub whole : length s ≡ length_of (components_in s)
   pub clear : reserved_clear s (components_in s) ≡ true
 
-pub shape-accepted : (s : List ℕ) → shape_of s ≡ (Ok tt) → Shaped s
+pub shape-accepted : (s : List ℕ) → shape_of s ≡ Ok tt → Shaped s
 unfolding shape_of
 shape-accepted s e =
     let m = length_of (components_in s) in
@@ -89,14 +89,14 @@ pub counts : (b : Board) → Counted b → counts_of b ≡ true
 unfolding within_limit
 counts b k = simp (le-leb _ _ k.some_components, le-leb _ _ k.few_components, le-leb _ _ k.some_cpus, le-leb _ _ k.few_cpus)
 
-pub writable-passes : (b : Board) → writable_of b ≡ (Ok tt) → Counted b × (judged_of b ≡ (Ok tt))
+pub writable-passes : (b : Board) → writable_of b ≡ Ok tt → Counted b × (judged_of b ≡ (Ok tt))
 unfolding writable_of
 writable-passes b e = let p = passes (counts_of b) _ _ (λ q. never cc) e in (counted b p.0, p.1)
 
-pub kept-counted : (b : Board) → writable_of b ≡ (Ok tt) → Counted b
+pub kept-counted : (b : Board) → writable_of b ≡ Ok tt → Counted b
 kept-counted b e = (writable-passes b e).0
 
-is-kept : (v : Result Unit Refusal) → is_kept v ≡ true → v ≡ (Ok tt)
+is-kept : (v : Result Unit Refusal) → is_kept v ≡ true → v ≡ Ok tt
 is-kept (Ok tt) e = refl
 is-kept (Err x) e = absurd (not-both e refl)
 
@@ -186,7 +186,7 @@ module _ (d : List ℕ) (b : Board) where
   unfolding put_of
   unwritable x e = rw e (refl, (put-none d, refl))
 
-  pub by-room : (r : Result ℕ Refusal) (e : List ℕ) → writable_of b ≡ (Ok tt) → r ≡ put_by (Ok tt) (length d) (length_of b.components) → e ≡ put d 0 (part_by r b) → length_in r ≡ length (part_by r b) → (r ≡ put_of (length d) b) × ((e ≡ buffer_of d b) × (length_in r ≡ length (part_of d b)))
+  pub by-room : (r : Result ℕ Refusal) (e : List ℕ) → writable_of b ≡ Ok tt → r ≡ put_by (Ok tt) (length d) (length_of b.components) → e ≡ put d 0 (part_by r b) → length_in r ≡ length (part_by r b) → (r ≡ put_of (length d) b) × ((e ≡ buffer_of d b) × (length_in r ≡ length (part_of d b)))
   unfolding put_of
   by-room r e w p q l = rw (w, ← p) (refl, (q, l))
 

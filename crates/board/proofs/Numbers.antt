@@ -70,10 +70,6 @@ unfolding put_of writable_of judged_of
 put-given room b w e =
     ap refusal_of e ∙ put_first (counts_of b) (leb b.first b.last) (apart b) (distinct b) room (length_of b.components)
 
-pub put-refused : (room : ℕ) (b : Board) (x : Refusal) → writable_of b ≡ Err x → number_of x ≡ first_of (put_rows room b)
-unfolding put_of
-put-refused room b x e = put-given room b (Err x) (rw e)
-
 pub ruleset puts = (put-given)
 
 pub ruleset gives = (read-given)

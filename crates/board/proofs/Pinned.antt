@@ -1,24 +1,24 @@
 -- Each public function's promise leaves one outcome: any two that it allows are both what it names. Assumes nothing.
 use mathlib.Core.Path.{refl}
 use Rattle.basics.proofs.Pin.{OneBy, OneOutcome, OneMutPart, same, just, both}
-use Rattle.board.proofs.number.Kinds as number-kinds
-use Rattle.board.proofs.number.Reads as number-reads
-use Rattle.board.proofs.blank.Kinds as blank-kinds
-use Rattle.board.proofs.blank.Reads as blank-reads
+use Rattle.board.proofs.U64FromRefusal.from.Kinds as from-kinds
+use Rattle.board.proofs.U64FromRefusal.from.Reads as from-reads
+use Rattle.board.proofs.Board.blank.Kinds as blank-kinds
+use Rattle.board.proofs.Board.blank.Reads as blank-reads
 use Rattle.board.proofs.digit.Kinds as digit-kinds
 use Rattle.board.proofs.digit.Reads as digit-reads
 use Rattle.board.proofs.good_entry.Kinds as good-entry-kinds
 use Rattle.board.proofs.good_entry.Reads as good-entry-reads
-use Rattle.board.proofs.numbered.Kinds as numbered-kinds
-use Rattle.board.proofs.numbered.Reads as numbered-reads
-use Rattle.board.proofs.is_capable.Kinds as is-capable-kinds
-use Rattle.board.proofs.is_capable.Reads as is-capable-reads
-use Rattle.board.proofs.may_reset.Kinds as may-reset-kinds
-use Rattle.board.proofs.may_reset.Reads as may-reset-reads
-use Rattle.board.proofs.is_entry_right.Kinds as is-entry-right-kinds
-use Rattle.board.proofs.is_entry_right.Reads as is-entry-right-reads
-use Rattle.board.proofs.is_well_formed.Kinds as is-well-formed-kinds
-use Rattle.board.proofs.is_well_formed.Reads as is-well-formed-reads
+use Rattle.board.proofs.Board.numbered.Kinds as numbered-kinds
+use Rattle.board.proofs.Board.numbered.Reads as numbered-reads
+use Rattle.board.proofs.Board.is_capable.Kinds as is-capable-kinds
+use Rattle.board.proofs.Board.is_capable.Reads as is-capable-reads
+use Rattle.board.proofs.Board.may_reset.Kinds as may-reset-kinds
+use Rattle.board.proofs.Board.may_reset.Reads as may-reset-reads
+use Rattle.board.proofs.Board.is_entry_right.Kinds as is-entry-right-kinds
+use Rattle.board.proofs.Board.is_entry_right.Reads as is-entry-right-reads
+use Rattle.board.proofs.Board.is_well_formed.Kinds as is-well-formed-kinds
+use Rattle.board.proofs.Board.is_well_formed.Reads as is-well-formed-reads
 use Rattle.board.proofs.read_board.Kinds as read-board-kinds
 use Rattle.board.proofs.read_board.Reads as read-board-reads
 use Rattle.board.proofs.put_board.Kinds as put-board-kinds
@@ -26,8 +26,8 @@ use Rattle.board.proofs.put_board.Reads as put-board-reads
 use Rattle.board.proofs.write_board.Kinds as write-board-kinds
 use Rattle.board.proofs.write_board.Reads as write-board-reads
 
-pub number-pinned : OneOutcome 0 number-kinds.ps number-kinds.r number-reads.Post
-number-pinned κs a z z' ws ws' p q = just p q
+pub from-refusal-pinned : OneOutcome 0 from-kinds.ps from-kinds.r from-reads.Post
+from-refusal-pinned κs a z z' ws ws' p q = just p q
 
 pub blank-pinned : OneOutcome 0 blank-kinds.ps blank-kinds.r blank-reads.Post
 blank-pinned κs a z z' ws ws' p q = just p q

@@ -121,7 +121,7 @@ module _ (b : Board) (d : Described b) (k : Counted b) where
   unfolding reserved_clear
   reserved-back = rw (eq-eqb _ _ head-back.2, count-back) (all_of b.components (zero_at bs) zero-back)
 
-  shape-back : shape_of bs ≡ (Ok tt)
+  shape-back : shape_of bs ≡ Ok tt
   unfolding shape_of
   shape-back =
       let n = bytes-long in
@@ -148,14 +148,14 @@ module _ (b : Board) where
       rw (p, q)
 
   -- a description that the writer takes reads back as written, with blanks past its count
-  pub reads-back : Described b → writable_of b ≡ (Ok tt) → read_of (bytes_of b) ≡ Ok (trimmed b)
+  pub reads-back : Described b → writable_of b ≡ Ok tt → read_of (bytes_of b) ≡ Ok (trimmed b)
   unfolding read_of
   reads-back d w =
       let p = writable-passes b w in
       rw (shape-back b d p.0, board-back b d p.0, judged-trimmed, p.1)
 
   -- the same of what a write did
-  pub written_back : (r : Result ℕ Refusal) → DescribedIf r b → writable_of b ≡ (Ok tt) → ReadsBack r b
+  pub written_back : (r : Result ℕ Refusal) → DescribedIf r b → writable_of b ≡ Ok tt → ReadsBack r b
   written_back (Ok n) d w = reads-back d w
   written_back (Err x) d w = tt
 
@@ -234,8 +234,8 @@ settled (Ok tt) r b e = (refl, e)
 settled (Err x) r b e = never cc
 
 record Read (s : List ℕ) (b : Board) : Type 0 where
-  shaped : shape_of s ≡ (Ok tt)
-  judged : judged_of (board_at s) ≡ (Ok tt)
+  shaped : shape_of s ≡ Ok tt
+  judged : judged_of (board_at s) ≡ Ok tt
   says : board_at s ≡ b
 
 read-inv : (s : List ℕ) (b : Board) → read_of s ≡ Ok b → Read s b

@@ -22,7 +22,7 @@ uuid_bytes = 16
 abbrev pub blank : Component
 blank = record { uuid = replicate uuid_bytes 0; capable = false; may_reset = false; optional = false; svn = 0 }
 
--- what a refused reading gives
+-- a board of zeros, which none is
 abbrev pub blank_board : Board
 blank_board = record { components = 0; cpus = 0; first = 0; last = 0; component = replicate most_components blank }
 

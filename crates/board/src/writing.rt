@@ -17,7 +17,7 @@ const FLAGS_AT: usize = 16;
 
 const SVN_AT: usize = 17;
 
-// Writes a number in n bytes that lie in the buffer.
+// Writes a number in n bytes that lie in the buffer: the buffer and a place, not a part of it, as `put` of the promise has them.
 #[tactic(auto, using(crate::proofs::Lists::written_room))]
 fn put_number(buf: &mut [u8], k: usize, n: usize, v: u64)
     requires { (n ≤ widest_bytes) × (k + n ≤ length buf.old) }

@@ -11,7 +11,7 @@ use cpuset::CpuSet;
 fn is_powered_right(cpus: u64, on: CpuSet) -> bool
     ensures { result ≡ powered_stand cpus on }
 {
-    !cpuset::is_none(on) && cpuset::within(on, cpuset::below(cpus))
+    !on.is_none() && on.within(CpuSet::below(cpus))
 }
 
 // Place i of the tables: what is pending is capable, and the version is 0 where nothing is.
@@ -53,11 +53,11 @@ fn is_subject_right(c: Component, alone: bool, pending: bool, version: u32) -> b
 fn is_state_right(rec: Record) -> bool
     ensures { result ≡ state_stands rec.board rec.pending rec.version rec.state }
 {
-    match crate::subject_of(rec.state) {
+    match rec.state.subject() {
         None => true,
         Some(c) => is_subject_right(
-            board::numbered(rec.board, c),
-            crate::skips_rendezvous(rec.state),
+            rec.board.numbered(c),
+            rec.state.skips_rendezvous(),
             crate::is_pending(rec.pending, c),
             crate::version_of(rec.version, c),
         ),
@@ -67,24 +67,24 @@ fn is_state_right(rec: Record) -> bool
 fn is_one_held(on: CpuSet, held: CpuSet) -> bool
     ensures { result ≡ held_by Holding.One on held }
 {
-    cpuset::within(held, on) && cpuset::count(held) == 1
+    held.within(on) && held.count() == 1
 }
 
 fn is_part_held(on: CpuSet, held: CpuSet) -> bool
     ensures { result ≡ held_by Holding.Part on held }
 {
-    !cpuset::is_none(held) && !cpuset::same(held, on) && cpuset::within(held, on)
+    !held.is_none() && !held.same(on) && held.within(on)
 }
 
 #[tactic(auto, unfolding(crate::specs::WellFormed::held_stand))]
 fn is_held_right(s: State, on: CpuSet, held: CpuSet) -> bool
     ensures { result ≡ held_stand s on held }
 {
-    match crate::holding_of(s) {
-        Holding::Nobody => cpuset::is_none(held),
+    match s.holding() {
+        Holding::Nobody => held.is_none(),
         Holding::One => is_one_held(on, held),
         Holding::Part => is_part_held(on, held),
-        Holding::All => cpuset::same(held, on),
+        Holding::All => held.same(on),
     }
 }
 
@@ -92,16 +92,13 @@ fn is_held_right(s: State, on: CpuSet, held: CpuSet) -> bool
 fn may_reset_by(b: Board, about: Option<u64>) -> bool
     ensures { result ≡ may_reset_by b about }
 {
-    match about {
-        None => false,
-        Some(c) => board::may_reset(b, c),
-    }
+    about.is_some_and(|c| b.may_reset(c))
 }
 
 fn keeps_entries(b: Board, s: State) -> bool
     ensures { result ≡ keeps_entries b s }
 {
-    crate::is_rendezvous(s) && may_reset_by(b, crate::subject_of(s))
+    s.is_rendezvous() && may_reset_by(b, s.subject())
 }
 
 // Whether a CPU's place holds a good entry where it is kept, and zeros elsewhere.
@@ -123,7 +120,7 @@ fn keepers(b: Board, s: State, held: CpuSet) -> CpuSet
     if keeps_entries(b, s) {
         held
     } else {
-        cpuset::none()
+        CpuSet::none()
     }
 }
 
@@ -137,13 +134,7 @@ fn are_entries_right<'a>(
     ensures { result ≡ entries_stand first last keepers entry.now context.now }
 {
     (0..board::MOST_CPUS).all(|i| {
-        is_place_right(
-            first,
-            last,
-            cpuset::has(keepers, i as u64),
-            entry[i],
-            context[i],
-        )
+        is_place_right(first, last, keepers.has(i as u64), entry[i], context[i])
     })
 }
 

@@ -1,29 +1,29 @@
 -- Each public function's promise leaves one outcome: any two that it allows are both what it names. Assumes nothing.
 use Rattle.basics.proofs.Pin.{OneOutcome, just}
-use Rattle.cpuset.proofs.none.Kinds as none-kinds
-use Rattle.cpuset.proofs.none.Reads as none_reads
-use Rattle.cpuset.proofs.has.Kinds as has-kinds
-use Rattle.cpuset.proofs.has.Reads as has-reads
-use Rattle.cpuset.proofs.only.Kinds as only-kinds
-use Rattle.cpuset.proofs.only.Reads as only-reads
-use Rattle.cpuset.proofs.with.Kinds as with-kinds
-use Rattle.cpuset.proofs.with.Reads as with-reads
-use Rattle.cpuset.proofs.without.Kinds as without-kinds
-use Rattle.cpuset.proofs.without.Reads as without-reads
-use Rattle.cpuset.proofs.union.Kinds as union-kinds
-use Rattle.cpuset.proofs.union.Reads as union-reads
-use Rattle.cpuset.proofs.less.Kinds as less-kinds
-use Rattle.cpuset.proofs.less.Reads as less-reads
-use Rattle.cpuset.proofs.same.Kinds as same-kinds
-use Rattle.cpuset.proofs.same.Reads as same_Reads
-use Rattle.cpuset.proofs.is_none.Kinds as is-none-kinds
-use Rattle.cpuset.proofs.is_none.Reads as is-none-reads
-use Rattle.cpuset.proofs.below.Kinds as below-kinds
-use Rattle.cpuset.proofs.below.Reads as below-reads
-use Rattle.cpuset.proofs.within.Kinds as within-kinds
-use Rattle.cpuset.proofs.within.Reads as within-reads
-use Rattle.cpuset.proofs.count.Kinds as count-kinds
-use Rattle.cpuset.proofs.count.Reads as count-reads
+use Rattle.cpuset.proofs.CpuSet.none.Kinds as none-kinds
+use Rattle.cpuset.proofs.CpuSet.none.Reads as none_reads
+use Rattle.cpuset.proofs.CpuSet.has.Kinds as has-kinds
+use Rattle.cpuset.proofs.CpuSet.has.Reads as has-reads
+use Rattle.cpuset.proofs.CpuSet.only.Kinds as only-kinds
+use Rattle.cpuset.proofs.CpuSet.only.Reads as only-reads
+use Rattle.cpuset.proofs.CpuSet.with.Kinds as with-kinds
+use Rattle.cpuset.proofs.CpuSet.with.Reads as with-reads
+use Rattle.cpuset.proofs.CpuSet.without.Kinds as without-kinds
+use Rattle.cpuset.proofs.CpuSet.without.Reads as without-reads
+use Rattle.cpuset.proofs.CpuSet.union.Kinds as union-kinds
+use Rattle.cpuset.proofs.CpuSet.union.Reads as union-reads
+use Rattle.cpuset.proofs.CpuSet.less.Kinds as less-kinds
+use Rattle.cpuset.proofs.CpuSet.less.Reads as less-reads
+use Rattle.cpuset.proofs.CpuSet.same.Kinds as same-kinds
+use Rattle.cpuset.proofs.CpuSet.same.Reads as same_Reads
+use Rattle.cpuset.proofs.CpuSet.is_none.Kinds as is-none-kinds
+use Rattle.cpuset.proofs.CpuSet.is_none.Reads as is-none-reads
+use Rattle.cpuset.proofs.CpuSet.below.Kinds as below-kinds
+use Rattle.cpuset.proofs.CpuSet.below.Reads as below-reads
+use Rattle.cpuset.proofs.CpuSet.within.Kinds as within-kinds
+use Rattle.cpuset.proofs.CpuSet.within.Reads as within-reads
+use Rattle.cpuset.proofs.CpuSet.count.Kinds as count-kinds
+use Rattle.cpuset.proofs.CpuSet.count.Reads as count-reads
 
 pub none-pinned : OneOutcome 0 none-kinds.ps none-kinds.r none_reads.Post
 none-pinned κs a z z' ws ws' p q = just p q

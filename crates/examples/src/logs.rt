@@ -1,5 +1,4 @@
 // The bench examples of the log.
-use crate::front;
 use log_book::{MOST_BYTES, MOST_RECORDS};
 use log_record::{LogRecord, RECORD_BYTES};
 use std::io;
@@ -50,11 +49,13 @@ fn writing(rt: &impl Print, name: &str, r: LogRecord) -> io::Result<()> {
     println!(rt)
 }
 
-// Fills a log with one record again and again.
-fn fill(log: &mut [u8], r: LogRecord) {
+// A log of one record again and again.
+fn log_of(r: LogRecord) -> [u8; TOO_LONG] {
+    let mut log = [0u8; TOO_LONG];
     for part in log.chunks_exact_mut(RECORD_BYTES) {
         let _ = log_record::put_record(part, r);
     }
+    log
 }
 
 // Whether bytes are a log.
@@ -62,7 +63,7 @@ fn checking(rt: &impl Print, log: &[u8]) -> io::Result<()> {
     print!(rt; "log of {} bytes: ", log.len())?;
     match log_book::check_log(log, 0) {
         Ok(count) => println!(rt; "records {count}"),
-        Err(f) => println!(rt; "refused {}", log_record::number(f.refusal)),
+        Err(f) => println!(rt; "refused {}", u64::from(f.refusal)),
     }
 }
 
@@ -71,7 +72,7 @@ fn asking(rt: &impl Print, log: &[u8], place: usize) -> io::Result<()> {
     print!(rt; "place {place} of it: ")?;
     match log_book::prepared_at(log, place) {
         Ok(p) => println!(rt; "looked at {}", p.looked),
-        Err(f) => println!(rt; "refused {}", log_record::number(f.refusal)),
+        Err(f) => println!(rt; "refused {}", u64::from(f.refusal)),
     }
 }
 
@@ -101,18 +102,22 @@ const OUTCOMES: [(&str, u64); 7] = [
     ("noted", codes::NOTED),
 ];
 
+// The longest log, and what is asked at its end and past it.
+fn longest(rt: &impl Print, log: &[u8; TOO_LONG]) -> io::Result<()> {
+    let log = &log[..MOST_BYTES];
+    checking(rt, log)?;
+    asking(rt, log, MOST_RECORDS)?;
+    asking(rt, log, MOST_RECORDS + 1)
+}
+
 pub(crate) fn all(rt: &impl Print) -> io::Result<()> {
     numbers(rt, "kinds", &KINDS)?;
     numbers(rt, "outcomes", &OUTCOMES)?;
     writing(rt, "image 1 version 5", image())?;
     writing(rt, "PRIME started by CPU 5", started())?;
-    let mut log = [0u8; TOO_LONG];
-    fill(&mut log, image());
+    let log = log_of(image());
     checking(rt, &log)?;
-    let longest = front(&log, MOST_BYTES);
-    checking(rt, longest)?;
-    asking(rt, longest, MOST_RECORDS)?;
-    asking(rt, longest, MOST_RECORDS + 1)?;
+    longest(rt, &log)?;
     let rest = log_record::rest(&log);
     println!(rt; "past its first record: {} bytes", rest.len())
 }

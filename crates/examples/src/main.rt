@@ -7,11 +7,6 @@ mod runs;
 use board::{Board, Component};
 use std::io;
 
-// The first n bytes, or all where there are fewer.
-fn front<'a>(s: &'a [u8], n: usize) -> &'a [u8] {
-    s.get(..n).unwrap_or(s)
-}
-
 // Whether an address is a good entry in the range 0x1000 to 0x1FFF.
 fn entries(rt: &impl Print) -> io::Result<()> {
     for address in [0x1000, 0x1FFC, 0xFFC, 0x1FFE, 0x2000] {
@@ -53,7 +48,7 @@ fn reading(rt: &impl Print, bytes: &[u8]) -> io::Result<()> {
     let n = bytes.len();
     match board::read_board(bytes) {
         Ok(b) => println!(rt; "reading {n} bytes: CPUs {}", b.cpus),
-        Err(x) => println!(rt; "reading {n} bytes: refused {}", board::number(x)),
+        Err(x) => println!(rt; "reading {n} bytes: refused {}", u64::from(x)),
     }
 }
 
@@ -61,7 +56,7 @@ fn writing(rt: &impl Print, buf: &mut [u8; 60]) -> io::Result<()> {
     print!(rt; "writing a board: ")?;
     match board::put_board(buf, sample()) {
         Ok(n) => println!(rt; "{n} bytes, opens {:02x} {:02x}", buf[0], buf[1]),
-        Err(x) => println!(rt; "refused {}", board::number(x)),
+        Err(x) => println!(rt; "refused {}", u64::from(x)),
     }
 }
 
@@ -69,8 +64,8 @@ fn main(rt: HostRuntime) -> io::Result<()> {
     entries(&rt)?;
     let mut buf = [0u8; 60];
     writing(&rt, &mut buf)?;
-    for n in [60, 59, 1] {
-        reading(&rt, front(&buf, n))?;
+    for part in [&buf[..], &buf[..59], &buf[..1]] {
+        reading(&rt, part)?;
     }
     runs::all(&rt)?;
     logs::all(&rt)

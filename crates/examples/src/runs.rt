@@ -15,7 +15,7 @@ struct Answer(Result<agent::Answer, rules::Refusal>);
 impl fmt::Display for Answer {
     fn fmt<W: fmt::Write>(&self, f: &mut fmt::Formatter<W>) -> fmt::Result {
         match self.0 {
-            Err(x) => write!(f, "refused {}", rules::number(x)),
+            Err(x) => write!(f, "refused {}", u64::from(x)),
             Ok(a) => match a.caller {
                 Caller::Nothing => f.write_str("accepted"),
                 Caller::Returned(x) => write!(f, "{}", Returned(x)),
@@ -95,7 +95,7 @@ fn activated(c: u64, code: u64) -> Event {
 }
 
 fn fresh() -> Record {
-    board_record::fresh(crate::sample())
+    Record::fresh(crate::sample())
 }
 
 // CPUs 0 and 2 are on.

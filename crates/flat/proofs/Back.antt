@@ -45,7 +45,7 @@ module _ (d : List ℕ) (f : FlatBoard) (typed : Described (board_in f)) where
   Fresh = fresh_in (take (described_of (length d) f).bytes (description_of d f)) ≡ record { refusal = 0; rec = flat_of (fresh_of (trimmed (board_in f))) }
 
   -- what was written, where the writer takes it and there is room
-  part-of : writable_of (board_in f) ≡ (Ok tt) → ltb (length d) (length_of (board_in f).components) ≡ false
+  part-of : writable_of (board_in f) ≡ Ok tt → ltb (length d) (length_of (board_in f).components) ≡ false
       → take (length_of (board_in f).components) (board_buffer d (board_in f)) ≡ bytes_of (board_in f)
   unfolding put_board
   part-of q u =

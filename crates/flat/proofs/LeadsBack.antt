@@ -1,6 +1,6 @@
 -- Readers as numbers and back: every reader comes back from its numbers, and numbers that are a reader's are those of the one that they
 -- make. So the functions over numbers go as those over readers, and where a reader stays its numbers do. Assumes nothing.
-use Rattle.std.specs.Prelude.{Err, None, Ok, Option, Result, Some}
+use Rattle.std.specs.Prelude.{Err, Ok, Result}
 use Prim.Native.Nat.{ℕ}
 use mathlib.Core.Path.{◌≡◌, refl, sym, ap, ◌∙◌}
 use mathlib.Core.Bool.{Bool, true, false}
@@ -21,9 +21,8 @@ use Rattle.deliveries.specs.declared.Refusal.TheVariants.{NoReader, AfterClose, 
 use Rattle.deliveries.specs.declared.Lead.{Lead}
 use Rattle.deliveries.proofs.Laws.{picked, lead-stands}
 use Rattle.deliveries.proofs.Again.{never-37}
-use Rattle.flat.specs.Leads.{standing_number, standing_refusal, standing_place, flat_lead, refusal_in, nobodys, standing_in, lead_in, lead_after, lead_given, lead_ended, taken_by, closed_by, taken_in, closed_in}
+use Rattle.flat.specs.Leads.{standing_number, standing_refusal, standing_place, flat_lead, refusal_in, nobodys, standing_in, lead_in, lead_after, taken_by, closed_by, taken_in, closed_in}
 use Rattle.flat.specs.declared.FlatLead.{FlatLead}
-use Rattle.log_record.specs.declared.LogRecord.{LogRecord}
 
 -- ---- every reader comes back
 
@@ -97,30 +96,22 @@ lead-there f e =
 
 -- ---- the functions go with it: 37 is for what is no reader alone
 
-after-known : (x : Refusal) (f : FlatLead) (l : Lead) → (x ≡ NoReader → ⊥) → lead_after x f l ≡ flat_lead l
-after-known NoReader f l k = absurd (k refl)
-after-known AfterClose f l k = refl
-after-known (Log x) f l k = refl
-
-given-known : (g : Result (Option LogRecord) Refusal) (f : FlatLead) (l : Lead) → (g ≡ Err NoReader → ⊥) → lead_given g f l ≡ flat_lead l
-given-known (Ok None) f l k = refl
-given-known (Ok (Some r)) f l k = refl
-given-known (Err x) f l k = after-known x f l (λ e. k (ap Err e))
-
-ended-known : (e : Result ℕ Refusal) (f : FlatLead) (l : Lead) → (e ≡ Err NoReader → ⊥) → lead_ended e f l ≡ flat_lead l
-ended-known (Ok n) f l k = refl
-ended-known (Err x) f l k = after-known x f l (λ e. k (ap Err e))
+after-known : {A : Type 0} (r : Result A Refusal) (f : FlatLead) (l : Lead) → (r ≡ Err NoReader → ⊥) → lead_after r f l ≡ flat_lead l
+after-known (Ok x) f l k = refl
+after-known (Err NoReader) f l k = absurd (k refl)
+after-known (Err AfterClose) f l k = refl
+after-known (Err (Log x)) f l k = refl
 
 module _ (f : FlatLead) where
   -- numbers that are a reader's become those of the reader after it
   module _ (e : is_lead (lead_in f) ≡ true) where
     pub taken-crosses : (d : List ℕ) → (taken_in f d).lead ≡ flat_lead (taken_of (lead_in f) d).lead
     unfolding taken_in taken_by
-    taken-crosses d = given-known (taken_of (lead_in f) d).given f (taken_of (lead_in f) d).lead (never-37 (lead_in f) e d).0
+    taken-crosses d = after-known (taken_of (lead_in f) d).given f (taken_of (lead_in f) d).lead (never-37 (lead_in f) e d).0
 
     pub closing-crosses : (closed_in f).lead ≡ flat_lead (closing_of (lead_in f)).lead
     unfolding closed_in closed_by
-    closing-crosses = ended-known (closing_of (lead_in f)).ending f (closing_of (lead_in f)).lead (never-37 (lead_in f) e []).1
+    closing-crosses = after-known (closing_of (lead_in f)).ending f (closing_of (lead_in f)).lead (never-37 (lead_in f) e []).1
 
   -- and numbers stay where the reader that they make does, or are none's
   pub taken-stays : (d : List ℕ) → (taken_of (lead_in f) d).lead ≡ lead_in f → (taken_in f d).lead ≡ f

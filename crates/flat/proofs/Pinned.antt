@@ -28,6 +28,22 @@ use Rattle.flat.proofs.lead_take.Kinds as lead-take-kinds
 use Rattle.flat.proofs.lead_take.Reads as lead-take-reads
 use Rattle.flat.proofs.lead_close.Kinds as lead-close-kinds
 use Rattle.flat.proofs.lead_close.Reads as lead-close-reads
+use Rattle.flat.proofs.records.FlatComponentFromComponent.from.Kinds as from-component-kinds
+use Rattle.flat.proofs.records.FlatComponentFromComponent.from.Reads as from-component-reads
+use Rattle.flat.proofs.records.ComponentFromFlatComponent.from.Kinds as from-flatcomponent-kinds
+use Rattle.flat.proofs.records.ComponentFromFlatComponent.from.Reads as from-flatcomponent-reads
+use Rattle.flat.proofs.records.FlatBoardFromBoard.from.Kinds as from-board-kinds
+use Rattle.flat.proofs.records.FlatBoardFromBoard.from.Reads as from-board-reads
+use Rattle.flat.proofs.records.BoardFromFlatBoard.from.Kinds as from-flatboard-kinds
+use Rattle.flat.proofs.records.BoardFromFlatBoard.from.Reads as from-flatboard-reads
+use Rattle.flat.proofs.records.FlatRecordFromRecord.from.Kinds as from-record-kinds
+use Rattle.flat.proofs.records.FlatRecordFromRecord.from.Reads as from-record-reads
+use Rattle.flat.proofs.records.RecordFromFlatRecord.from.Kinds as from-flatrecord-kinds
+use Rattle.flat.proofs.records.RecordFromFlatRecord.from.Reads as from-flatrecord-reads
+use Rattle.flat.proofs.leads.FlatLeadFromLead.from.Kinds as from-lead-kinds
+use Rattle.flat.proofs.leads.FlatLeadFromLead.from.Reads as from-lead-reads
+use Rattle.flat.proofs.leads.LeadFromFlatLead.from.Kinds as from-flatlead-kinds
+use Rattle.flat.proofs.leads.LeadFromFlatLead.from.Reads as from-flatlead-reads
 
 pub abi-pinned : OneOutcome 0 abi-kinds.ps abi-kinds.r abi-reads.Post
 abi-pinned κs a z z' ws ws' p q = just p q
@@ -70,3 +86,27 @@ lead-take-pinned κs a z z' ws ws' p q = just p q
 
 pub lead-close-pinned : OneOutcome 0 lead-close-kinds.ps lead-close-kinds.r lead-close-reads.Post
 lead-close-pinned κs a z z' ws ws' p q = just p q
+
+pub from-component-pinned : OneOutcome 0 from-component-kinds.ps from-component-kinds.r from-component-reads.Post
+from-component-pinned κs a z z' ws ws' p q = just p q
+
+pub from-flatcomponent-pinned : OneOutcome 0 from-flatcomponent-kinds.ps from-flatcomponent-kinds.r from-flatcomponent-reads.Post
+from-flatcomponent-pinned κs a z z' ws ws' p q = just p q
+
+pub from-board-pinned : OneOutcome 0 from-board-kinds.ps from-board-kinds.r from-board-reads.Post
+from-board-pinned κs a z z' ws ws' p q = just p q
+
+pub from-flatboard-pinned : OneOutcome 0 from-flatboard-kinds.ps from-flatboard-kinds.r from-flatboard-reads.Post
+from-flatboard-pinned κs a z z' ws ws' p q = just p q
+
+pub from-record-pinned : OneOutcome 0 from-record-kinds.ps from-record-kinds.r from-record-reads.Post
+from-record-pinned κs a z z' ws ws' p q = just p q
+
+pub from-flatrecord-pinned : OneOutcome 0 from-flatrecord-kinds.ps from-flatrecord-kinds.r from-flatrecord-reads.Post
+from-flatrecord-pinned κs a z z' ws ws' p q = just p q
+
+pub from-lead-pinned : OneOutcome 0 from-lead-kinds.ps from-lead-kinds.r from-lead-reads.Post
+from-lead-pinned κs a z z' ws ws' p q = just p q
+
+pub from-flatlead-pinned : OneOutcome 0 from-flatlead-kinds.ps from-flatlead-kinds.r from-flatlead-reads.Post
+from-flatlead-pinned κs a z z' ws ws' p q = just p q

@@ -1,5 +1,5 @@
 -- Events, answers and what questions find, as numbers and back. Assumes nothing.
-use Rattle.std.specs.Prelude.{ℕ, eqb, None, Option, Result, Some}
+use Rattle.std.specs.Prelude.{ℕ, eqb, Err, None, Ok, Option, Result, Some}
 use Rattle.basics.specs.Choice.{pick}
 use Rattle.rules.specs.declared.Registers.{Registers}
 use Rattle.agent.specs.Numbers.{with_status, by_entry, Said, refused_with, said_of}
@@ -10,16 +10,13 @@ use Rattle.agent.specs.declared.Freed.{Freed}
 use Rattle.agent.specs.declared.Release.{Release}
 use Rattle.agent.specs.declared.Release.TheVariants as release
 use Rattle.codes.specs.Outcomes.{returned, held, prime_started, activation_started, gone}
-use Rattle.log_record.specs.Rules.{number_of as log_number}
-use Rattle.board.specs.Packed.{length_in as board_length}
-use Rattle.board.specs.Numbers.{refusal_of as board_refusal}
-use Rattle.log_record.specs.Packed.{length_in, skipped_by}
-use Rattle.log_record.specs.Numbers.{refusal_in, refusal_read}
+use Rattle.log_record.specs.Packed.{skipped_by}
+use Rattle.log_record.specs.Numbers.{refusal_read}
 use Rattle.log_record.specs.declared.LogRecord.{LogRecord}
 use Rattle.log_book.specs.Log.{blank, said}
-use Rattle.log_book.specs.Numbers.{found_in as primed_in, component_in as primed_component, Numbers as LogNumbers, numbers_of as log_numbers}
+use Rattle.log_book.specs.Numbers.{found_in, component_in, Numbers as LogNumbers, numbers_of as log_numbers}
 use Rattle.log_book.specs.declared.Flaw.{Flaw}
-use Rattle.reader.specs.Numbers.{found_in as started_in, component_in as started_component, Numbers as StartNumbers, refused_with as not_started_with, numbers_of as start_numbers, refusal_of as cpus_refusal, place_of as cpus_place, cpus_in}
+use Rattle.reader.specs.Numbers.{Numbers as StartNumbers, numbers_of as start_numbers, refusal_of as cpus_refusal, place_of as cpus_place, cpus_in}
 use Rattle.reason.specs.Numbers.{Numbers as ReasonNumbers, numbers_of as reason_numbers}
 use Rattle.trace.specs.Logged.{logged_of, of_kind}
 use Rattle.flat.specs.declared.FlatAnswer.{FlatAnswer}
@@ -31,9 +28,7 @@ use Rattle.flat.specs.declared.FlatStarted.{FlatStarted}
 use Rattle.flat.specs.declared.FlatCpus.{FlatCpus}
 use Rattle.flat.specs.declared.FlatWhy.{FlatWhy}
 use Rattle.flat.specs.declared.FlatWritten.{FlatWritten}
-use Rattle.reason.specs.declared.Unexplained.TheVariants as unexplained
 use Rattle.rules.specs.declared.Refusal.{Refusal}
-use Rattle.board.specs.declared.Refusal.{Refusal as BoardRefusal}
 use Rattle.log_record.specs.declared.Refusal.{Refusal as LogRecordRefusal}
 use Rattle.log_book.specs.declared.Prepared.{Prepared}
 use Rattle.reader.specs.declared.Refusal.{Refusal as ReaderRefusal}
@@ -87,28 +82,18 @@ logged_by (Some e) a = logged_of e (accepted_in a)
 unfoldable pub logged_in : FlatEvent → FlatAnswer → LogRecord
 logged_in e a = pick (eqb a.refusal 0) (logged_by (event_in e) a) blank
 
-abbrev pub written_by : Result ℕ LogRecordRefusal → FlatWritten
-written_by w = record { refusal = refusal_in w; bytes = length_in w }
-
-abbrev pub described_by : Result ℕ BoardRefusal → FlatWritten
-described_by w = record { refusal = board_refusal w; bytes = board_length w }
+-- ---- how many bytes were written, or a refusal by its number
+abbrev pub written_by : {E : Type 0} → (E → ℕ) → Result ℕ E → FlatWritten
+written_by number (Ok n) = record { refusal = 0; bytes = n }
+written_by number (Err x) = record { refusal = number x; bytes = 0 }
 
 -- ---- a log record as it was read; zeros with a refusal
 abbrev pub read_by : Result LogRecord LogRecordRefusal → FlatRead
 read_by r = record { refusal = refusal_read r; bytes = skipped_by r; rec = said r }
 
--- ---- what questions find
-abbrev pub found_of : ℕ → FlatFound
-found_of c = record { found = 1; component = c }
-
-abbrev pub not_found : FlatFound
-not_found = record { found = 0; component = 0 }
-
-abbrev pub primed_found : Option ℕ → FlatFound
-primed_found p = record { found = primed_in p; component = primed_component p }
-
-abbrev pub started_found : Option ℕ → FlatFound
-started_found s = record { found = started_in s; component = started_component s }
+-- ---- what questions find: a component, or zeros
+abbrev pub found_of : Option ℕ → FlatFound
+found_of c = record { found = found_in c; component = component_in c }
 
 unfoldable pub prepared_with : LogNumbers → FlatPrepared
 prepared_with n = record { refusal = n.refusal; place = n.place; prepared = record { found = n.found; component = n.component }; looked = n.looked }
@@ -118,12 +103,6 @@ prepared_by a = prepared_with (log_numbers a)
 
 unfoldable pub started_with : StartNumbers → FlatStarted
 started_with n = record { refusal = n.refusal; place = n.place; started = record { found = n.found; component = n.component } }
-
-abbrev pub not_started : ℕ → ℕ → FlatStarted
-not_started n k = started_with (not_started_with n k)
-
-abbrev pub log_refused : Flaw → FlatStarted
-log_refused f = not_started (log_number f.refusal) f.place
 
 abbrev pub started_by : Result (Option ℕ) ReaderRefusal → FlatStarted
 started_by a = started_with (start_numbers a)

@@ -2,6 +2,7 @@
 use Rattle.std.specs.Prelude.{ℕ, List, Err, None, Ok, Option, Result, Some}
 use Rattle.basics.specs.Choice.{pick}
 use Rattle.codes.specs.declared.Call.{Call}
+use Rattle.board.specs.Description.{number_of as board_number}
 use Rattle.board.specs.Packed as board
 use Rattle.board.specs.Packed.{read_of}
 use Rattle.board.specs.Numbers.{refusal_of}
@@ -21,7 +22,7 @@ use Rattle.log_book.specs.Prepared.{prepared_at}
 use Rattle.reader.specs.Starts.{starts_at, powered_at, held_at}
 use Rattle.reason.specs.Explained.{explained_of}
 use Rattle.reason.specs.declared.Activate.{Activate}
-use Rattle.flat.specs.Answers.{event_in, refused_answer, answer_of, logged_in, written_by, described_by, read_by, prepared_by, started_by, cpus_by, why_by}
+use Rattle.flat.specs.Answers.{event_in, refused_answer, answer_of, logged_in, written_by, read_by, prepared_by, started_by, cpus_by, why_by}
 use Rattle.flat.specs.Records.{flat_with, flat_of, board_in, record_in, is_flat, has_flags, zero_record}
 use Rattle.flat.specs.declared.FlatAbi.{FlatAbi}
 use Rattle.flat.specs.declared.FlatAnswer.{FlatAnswer}
@@ -47,7 +48,7 @@ abi_of = record { number = 4; rec = 2024; event = 88; answer = 80 }
 
 -- ---- a board description from its parts: 22 for a flag that is neither 0 nor 1, then as its writer says
 unfoldable pub described_of : ℕ → FlatBoard → FlatWritten
-described_of room b = described_by (pick (has_flags b) (board.put_of room (board_in b)) (Err ReservedBit))
+described_of room b = written_by board_number (pick (has_flags b) (board.put_of room (board_in b)) (Err ReservedBit))
 
 unfoldable pub description_of : List ℕ → FlatBoard → List ℕ
 description_of d b = pick (has_flags b) (board.buffer_of d (board_in b)) d
@@ -95,7 +96,7 @@ contexts_of f e entries contexts = pick (is_flat f) (contexts_by (event_in e) f 
 
 -- ---- the log record of an answer
 unfoldable pub written_of : ℕ → FlatEvent → FlatAnswer → FlatWritten
-written_of room e a = written_by (packed.put_of room (logged_in e a))
+written_of room e a = written_by log_number (packed.put_of room (logged_in e a))
 
 unfoldable pub buffer_of : List ℕ → FlatEvent → FlatAnswer → List ℕ
 buffer_of d e a = packed.buffer_of d (logged_in e a)

@@ -69,19 +69,11 @@ lead_in f = record { standing = standing_in f.standing f.refusal f.place; record
 -- ---- answers
 
 -- the reader after it; one that no reader is stays as it was given
-abbrev pub lead_after : Refusal → FlatLead → Lead → FlatLead
-lead_after NoReader f l = f
-lead_after AfterClose f l = flat_lead l
-lead_after (Log x) f l = flat_lead l
-
-abbrev pub lead_given : Result (Option LogRecord) Refusal → FlatLead → Lead → FlatLead
-lead_given (Ok None) f l = flat_lead l
-lead_given (Ok (Some r)) f l = flat_lead l
-lead_given (Err x) f l = lead_after x f l
-
-abbrev pub lead_ended : Result ℕ Refusal → FlatLead → Lead → FlatLead
-lead_ended (Ok n) f l = flat_lead l
-lead_ended (Err x) f l = lead_after x f l
+abbrev pub lead_after : {A : Type 0} → Result A Refusal → FlatLead → Lead → FlatLead
+lead_after (Err NoReader) f l = f
+lead_after (Err AfterClose) f l = flat_lead l
+lead_after (Err (Log x)) f l = flat_lead l
+lead_after (Ok x) f l = flat_lead l
 
 -- 1 where a record is given, and the record; zeros where none is
 abbrev pub count_given : Result (Option LogRecord) Refusal → ℕ
@@ -95,10 +87,10 @@ record_given (Ok (Some r)) = r
 record_given (Err x) = blank
 
 unfoldable pub taken_by : FlatLead → Taken → FlatTaken
-taken_by f t = record { lead = lead_given t.given f t.lead; refusal = refusal_given t.given; place = place_given t.given; used = t.used; given = count_given t.given; rec = record_given t.given }
+taken_by f t = record { lead = lead_after t.given f t.lead; refusal = refusal_given t.given; place = place_given t.given; used = t.used; given = count_given t.given; rec = record_given t.given }
 
 unfoldable pub closed_by : FlatLead → Closing → FlatClosed
-closed_by f c = record { lead = lead_ended c.ending f c.lead; refusal = refusal_ended c.ending; place = place_ended c.ending; records = records_ended c.ending }
+closed_by f c = record { lead = lead_after c.ending f c.lead; refusal = refusal_ended c.ending; place = place_ended c.ending; records = records_ended c.ending }
 
 -- ---- the functions
 

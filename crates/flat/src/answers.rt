@@ -1,6 +1,7 @@
 // Events, answers and what questions find, as numbers and back.
-ghost use Rattle.std.specs.Prelude.{◌≡◌};
-ghost use Rattle.flat.specs.Answers.{event_in, refused_answer, answer_of, caller_in, release_in, logged_in, written_by, described_by, read_by, primed_found, found_of, not_found, started_found, prepared_by, not_started, started_by, cpus_by};
+ghost use Rattle.std.specs.Prelude.{◌≡◌, MatchResult};
+ghost use Rattle.log_record.specs.Rules.{number_of as log_number};
+ghost use Rattle.flat.specs.Answers.{event_in, refused_answer, answer_of, caller_in, release_in, logged_in, written_by, read_by, found_of, prepared_by, started_by, cpus_by};
 ghost use Rattle.flat.specs.Calls.{kept_with, through_of};
 
 use crate::{
@@ -9,9 +10,12 @@ use crate::{
 };
 use agent::{Answer, BY_ENTRY, Caller, Freed, NOBODY, Release, Stepped, WITH_STATUS};
 use codes::{ACTIVATION_STARTED, GONE, HELD, PRIME_STARTED, RETURNED};
+use cpuset::CpuSet;
+use log_book::{Flaw, Prepared};
 use log_record::{LogRecord, RECORD_BYTES};
 use rules::Registers;
 
+// No `TryFrom`: which refusal a kind that is none of the four gets depends on the record too (`no_event`).
 pub(crate) fn event(e: FlatEvent) -> Option<rules::Event>
     ensures { result ≡ event_in e }
 {
@@ -26,9 +30,9 @@ fn refused_answer(number: u64) -> FlatAnswer
     FlatAnswer {
         refusal: number,
         caller: 0,
-        returned: agent::returned(Caller::Nothing),
+        returned: Caller::Nothing.returned(),
         release: NOBODY,
-        freed: agent::freed_by(Release::Nobody),
+        freed: Release::Nobody.freed(),
     }
 }
 
@@ -37,13 +41,13 @@ fn answer(o: Result<Answer, rules::Refusal>) -> FlatAnswer
     ensures { result ≡ answer_of o }
 {
     match o {
-        Err(x) => refused_answer(rules::number(x)),
+        Err(x) => refused_answer(u64::from(x)),
         Ok(a) => FlatAnswer {
             refusal: 0,
-            caller: agent::caller_number(a.caller),
-            returned: agent::returned(a.caller),
-            release: agent::release_number(a.release),
-            freed: agent::freed_by(a.release),
+            caller: a.caller.outcome(),
+            returned: a.caller.returned(),
+            release: a.release.number(),
+            freed: a.release.freed(),
         },
     }
 }
@@ -70,7 +74,7 @@ pub(crate) fn stepped(rec: FlatRecord, s: Stepped) -> FlatStepped
     }
 }
 
-// The caller's part of this number; of another, none.
+// The caller's part of this number; of another, none: no `From`, as it takes two.
 fn caller(number: u64, x: Registers) -> Caller
     ensures { result ≡ caller_in number x }
 {
@@ -84,7 +88,7 @@ fn caller(number: u64, x: Registers) -> Caller
     }
 }
 
-// The release of this number; of another, nobody.
+// The release of this number; of another, nobody: no `From`, as it takes two.
 fn release(number: u64, f: Freed) -> Release
     ensures { result ≡ release_in number f }
 {
@@ -115,33 +119,13 @@ pub(crate) fn logged(e: FlatEvent, a: FlatAnswer) -> LogRecord
     }
 }
 
-pub(crate) fn written(w: Result<usize, log_record::Refusal>) -> FlatWritten
-    ensures { result ≡ written_by w }
+// How many bytes were written, or the number of the refusal.
+pub(crate) fn written(w: Result<usize, u64>) -> FlatWritten
+    ensures { result ≡ written_by (λ n. n) w }
 {
     match w {
-        Ok(n) => FlatWritten {
-            refusal: 0,
-            bytes: n,
-        },
-        Err(x) => FlatWritten {
-            refusal: log_record::number(x),
-            bytes: 0,
-        },
-    }
-}
-
-pub(crate) fn described(w: Result<usize, board::Refusal>) -> FlatWritten
-    ensures { result ≡ described_by w }
-{
-    match w {
-        Ok(n) => FlatWritten {
-            refusal: 0,
-            bytes: n,
-        },
-        Err(x) => FlatWritten {
-            refusal: board::number(x),
-            bytes: 0,
-        },
+        Ok(bytes) => FlatWritten { refusal: 0, bytes },
+        Err(refusal) => FlatWritten { refusal, bytes: 0 },
     }
 }
 
@@ -155,108 +139,80 @@ pub(crate) fn record_read(r: Result<LogRecord, log_record::Refusal>) -> FlatRead
             rec,
         },
         Err(x) => FlatRead {
-            refusal: log_record::number(x),
+            refusal: u64::from(x),
             bytes: 0,
             rec: log_book::blank(),
         },
     }
 }
 
-fn found(component: u64) -> FlatFound
-    ensures { result ≡ found_of component }
+// The component, where there is one.
+fn found(c: Option<u64>) -> FlatFound
+    ensures { result ≡ found_of c }
 {
     FlatFound {
-        found: 1,
-        component,
+        found: u64::from(c.is_some()),
+        component: c.unwrap_or(0),
     }
 }
 
-fn not_found() -> FlatFound
-    ensures { result ≡ not_found }
+// The number and the place of a refusal.
+pub(crate) fn flaw(f: Flaw) -> (u64, usize)
+    ensures { result ≡ (log_number f.refusal, f.place) }
 {
-    FlatFound {
-        found: 0,
-        component: 0,
-    }
+    (u64::from(f.refusal), f.place)
 }
 
-fn primed(p: Option<u64>) -> FlatFound
-    ensures { result ≡ primed_found p }
+// A refusal's number and place, and `none`; where there is no refusal, zeros and what was found.
+pub(crate) fn told<T: Copy>(a: Result<T, (u64, usize)>, none: T) -> (u64, usize, T)
+    ensures { MatchResult a (λ x. result ≡ (0, 0, x)) (λ r. result ≡ (r.0, r.1, none)) }
 {
-    match p {
-        None => not_found(),
-        Some(c) => found(c),
-    }
-}
-
-fn begun(s: Option<u64>) -> FlatFound
-    ensures { result ≡ started_found s }
-{
-    match s {
-        None => not_found(),
-        Some(c) => found(c),
+    match a {
+        Ok(x) => (0, 0, x),
+        Err((number, place)) => (number, place, none),
     }
 }
 
 #[tactic(auto, unfolding(crate::specs::Answers::prepared_with, log_book::specs::Numbers::found_with, log_book::specs::Numbers::refused_with))]
-pub(crate) fn prepared(a: Result<log_book::Prepared, log_book::Flaw>) -> FlatPrepared
+pub(crate) fn prepared(a: Result<Prepared, Flaw>) -> FlatPrepared
     ensures { result ≡ prepared_by a }
 {
-    match a {
-        Ok(p) => FlatPrepared {
-            refusal: 0,
-            place: 0,
-            prepared: primed(p.primed),
-            looked: p.looked,
-        },
-        Err(f) => FlatPrepared {
-            refusal: log_record::number(f.refusal),
-            place: f.place,
-            prepared: not_found(),
-            looked: 0,
-        },
-    }
-}
-
-#[tactic(auto, unfolding(crate::specs::Answers::started_with, reader::specs::Numbers::refused_with))]
-fn not_started(number: u64, place: usize) -> FlatStarted
-    ensures { result ≡ not_started number place }
-{
-    FlatStarted {
-        refusal: number,
+    let nothing = Prepared {
+        primed: None,
+        looked: 0,
+    };
+    let (refusal, place, p) = told(a.map_err(flaw), nothing);
+    FlatPrepared {
+        refusal,
         place,
-        started: not_found(),
+        prepared: found(p.primed),
+        looked: p.looked,
     }
 }
 
-#[tactic(auto, unfolding(crate::specs::Answers::started_with, reader::specs::Numbers::found_with))]
+#[tactic(auto, unfolding(crate::specs::Answers::started_with, reader::specs::Numbers::found_with, reader::specs::Numbers::refused_with))]
 pub(crate) fn started(a: Result<Option<u64>, reader::Refusal>) -> FlatStarted
     ensures { result ≡ started_by a }
 {
-    match a {
-        Ok(s) => FlatStarted {
-            refusal: 0,
-            place: 0,
-            started: begun(s),
-        },
-        Err(reader::Refusal::Board(x)) => not_started(board::number(x), 0),
-        Err(reader::Refusal::Log(f)) => { not_started(log_record::number(f.refusal), f.place) }
+    let numbered = a.map_err(|r| match r {
+        reader::Refusal::Board(x) => (u64::from(x), 0),
+        reader::Refusal::Log(f) => flaw(f),
+    });
+    let (refusal, place, s) = told(numbered, None);
+    FlatStarted {
+        refusal,
+        place,
+        started: found(s),
     }
 }
 
-pub(crate) fn cpus(c: Result<cpuset::CpuSet, log_book::Flaw>) -> FlatCpus
+pub(crate) fn cpus(c: Result<CpuSet, Flaw>) -> FlatCpus
     ensures { result ≡ cpus_by c }
 {
-    match c {
-        Ok(s) => FlatCpus {
-            refusal: 0,
-            place: 0,
-            cpus: s,
-        },
-        Err(f) => FlatCpus {
-            refusal: log_record::number(f.refusal),
-            place: f.place,
-            cpus: cpuset::none(),
-        },
+    let (refusal, place, cpus) = told(c.map_err(flaw), CpuSet::none());
+    FlatCpus {
+        refusal,
+        place,
+        cpus,
     }
 }

@@ -11,11 +11,11 @@ ghost use Rattle.flat.specs.Calls.{abi_of, described_of, description_of, read_in
 ghost use Rattle.flat.specs.Leads.{opened_in, taken_in, closed_in};
 
 use agent::Freed;
-use board::{MOST_COMPONENTS, MOST_CPUS, UUID_BYTES};
+use board::{Board, MOST_COMPONENTS, MOST_CPUS, UUID_BYTES};
 use board_record::Record;
 use codes::Call;
 use cpuset::CpuSet;
-use deliveries::MOST_KEPT;
+use deliveries::{Lead, MOST_KEPT};
 use log_record::LogRecord;
 use reason::Activate;
 use rules::{Image, Registers, Report};
@@ -235,10 +235,12 @@ pub fn describe(buf: &mut [u8], b: FlatBoard) -> FlatWritten
     ensures value { result ≡ described_of (length buf.old) b }
     ensures buf_after { buf.new ≡ description_of buf.old b }
 {
-    if records::has_flags(b) {
-        return answers::described(board::put_board(buf, records::board(b)));
-    }
-    answers::described(Err(board::Refusal::ReservedBit))
+    let put = if records::has_flags(b) {
+        board::put_board(buf, Board::from(b))
+    } else {
+        Err(board::Refusal::ReservedBit)
+    };
+    answers::written(put.map_err(u64::from))
 }
 
 // The record of a board that was just switched on, from its packed description.
@@ -249,10 +251,10 @@ pub fn fresh(board: &[u8]) -> FlatFresh
     match board::read_board(board) {
         Ok(b) => FlatFresh {
             refusal: 0,
-            rec: records::flat(board_record::fresh(b)),
+            rec: FlatRecord::from(Record::fresh(b)),
         },
         Err(x) => FlatFresh {
-            refusal: board::number(x),
+            refusal: u64::from(x),
             rec: records::zeros(),
         },
     }
@@ -264,8 +266,8 @@ fn no_event(rec: Record, entries: usize, contexts: usize) -> u64
     ensures { result ≡ no_event rec entries contexts }
 {
     match rules::admit(rec, entries, contexts) {
-        Err(x) => rules::number(x),
-        Ok(()) => log_record::number(log_record::Refusal::Unknown),
+        Err(x) => u64::from(x),
+        Ok(()) => u64::from(log_record::Refusal::Unknown),
     }
 }
 
@@ -277,9 +279,9 @@ pub fn step(f: FlatRecord, e: FlatEvent, entries: &mut [u64], contexts: &mut [u6
     ensures contexts_after { contexts.new ≡ contexts_of f e entries.old contexts.old }
 {
     if !records::is_flat(f) {
-        return answers::refused(f, rules::number(rules::Refusal::NotWellFormed));
+        return answers::refused(f, u64::from(rules::Refusal::NotWellFormed));
     }
-    let rec = records::record(f);
+    let rec = Record::from(f);
     match answers::event(e) {
         Some(event) => answers::stepped(f, agent::step(rec, event, entries, contexts)),
         None => answers::refused(f, no_event(rec, entries.len(), contexts.len())),
@@ -292,7 +294,7 @@ pub fn log(buf: &mut [u8], e: FlatEvent, a: FlatAnswer) -> FlatWritten
     ensures value { result ≡ written_of (length buf.old) e a }
     ensures buf_after { buf.new ≡ buffer_of buf.old e a }
 {
-    answers::written(log_record::put_record(buf, answers::logged(e, a)))
+    answers::written(log_record::put_record(buf, answers::logged(e, a)).map_err(u64::from))
 }
 
 // The log record that the bytes open with.
@@ -347,7 +349,7 @@ pub fn why(board: &[u8], log: &[u8], place: usize, a: Activate) -> FlatWhy
 pub fn lead_open() -> FlatLead
     ensures { result ≡ opened_in }
 {
-    leads::flat(deliveries::open())
+    FlatLead::from(Lead::open())
 }
 
 // Takes a delivery as far as it gives one record.
@@ -355,7 +357,7 @@ pub fn lead_open() -> FlatLead
 pub fn lead_take(f: FlatLead, delivery: &[u8]) -> FlatTaken
     ensures { result ≡ taken_in f delivery.now }
 {
-    leads::taken(f, deliveries::take(leads::lead(f), delivery))
+    leads::taken(f, Lead::from(f).take(delivery))
 }
 
 // Tells a reader that the log ends here.
@@ -363,5 +365,5 @@ pub fn lead_take(f: FlatLead, delivery: &[u8]) -> FlatTaken
 pub fn lead_close(f: FlatLead) -> FlatClosed
     ensures { result ≡ closed_in f }
 {
-    leads::closed(f, deliveries::close(leads::lead(f)))
+    leads::closed(f, Lead::from(f).close())
 }

@@ -7,8 +7,11 @@ ghost use Rattle.flat.specs.Records.{state_in, is_state, flat_component, compone
 use crate::{FlatBoard, FlatComponent, FlatRecord};
 use board::{Board, Component, MOST_COMPONENTS, MOST_CPUS, UUID_BYTES};
 use board_record::{Record, STATES, State};
+use cpuset::CpuSet;
+use std::array;
 
-// The state of this number and component; of a number that is no state's, which `is_state` refuses, dead.
+// The state of this number, as C has it (enum lfa_state, host/lfa.h), and component; of a number that is no state's, which
+// `is_state` refuses, dead: no `From`, as it takes two numbers.
 fn state(number: u64, c: u64) -> State
     ensures { result ≡ state_in number c }
 {
@@ -30,36 +33,40 @@ fn state(number: u64, c: u64) -> State
 fn is_state(number: u64, c: u64) -> bool
     ensures { result ≡ is_state number c }
 {
-    number < STATES as u64 && board_record::subject_number(state(number, c)) == c
+    number < STATES as u64 && state(number, c).subject_number() == c
 }
 
-#[tactic(auto, unfolding(crate::specs::Records::flat_component))]
-fn flat_component(c: Component) -> FlatComponent
-    ensures { result ≡ flat_component c }
-{
-    // named first: the check takes an array's field into a struct only so
-    let uuid = c.uuid;
-    FlatComponent {
-        uuid,
-        svn: c.svn,
-        capable: u8::from(c.capable),
-        may_reset: u8::from(c.may_reset),
-        optional: u8::from(c.optional),
+impl From<Component> for FlatComponent {
+    ghost from_gives = { λ c f. f ≡ flat_component c };
+
+    #[tactic(auto, unfolding(crate::specs::Records::flat_component))]
+    fn from(c: Component) -> FlatComponent {
+        // named first: put in straight it has no proof
+        let uuid = c.uuid;
+        FlatComponent {
+            uuid,
+            svn: c.svn,
+            capable: u8::from(c.capable),
+            may_reset: u8::from(c.may_reset),
+            optional: u8::from(c.optional),
+        }
     }
 }
 
-#[tactic(auto, unfolding(crate::specs::Records::component_in))]
-fn component(c: FlatComponent) -> Component
-    ensures { result ≡ component_in c }
-{
-    // named first: the check takes an array's field into a struct only so
-    let uuid = c.uuid;
-    Component {
-        uuid,
-        capable: c.capable == 1,
-        may_reset: c.may_reset == 1,
-        optional: c.optional == 1,
-        svn: c.svn,
+impl From<FlatComponent> for Component {
+    ghost from_gives = { λ f c. c ≡ component_in f };
+
+    #[tactic(auto, unfolding(crate::specs::Records::component_in))]
+    fn from(f: FlatComponent) -> Component {
+        // named first: put in straight it has no proof
+        let uuid = f.uuid;
+        Component {
+            uuid,
+            capable: f.capable == 1,
+            may_reset: f.may_reset == 1,
+            optional: f.optional == 1,
+            svn: f.svn,
+        }
     }
 }
 
@@ -84,23 +91,14 @@ fn blank() -> FlatComponent
 fn flat_components(from: &[Component; MOST_COMPONENTS]) -> [FlatComponent; MOST_COMPONENTS]
     ensures { result ≡ flat_components from.now }
 {
-    // a place at a time: `map` takes the table by value, and the stack of `fresh` is bounded (host/lfa.h)
-    let mut all = [blank(); MOST_COMPONENTS];
-    for i in 0..MOST_COMPONENTS {
-        all[i] = flat_component(from[i]);
-    }
-    all
+    // each from its place: `map` would take the table by value (the stack of `fresh` is bounded, host/lfa.h), and is slower
+    array::from_fn(|i| FlatComponent::from(from[i]))
 }
 
 fn components(from: &[FlatComponent; MOST_COMPONENTS]) -> [Component; MOST_COMPONENTS]
     ensures { result ≡ components_in from.now }
 {
-    // a place at a time, as above
-    let mut all = [component(blank()); MOST_COMPONENTS];
-    for i in 0..MOST_COMPONENTS {
-        all[i] = component(from[i]);
-    }
-    all
+    array::from_fn(|i| Component::from(from[i]))
 }
 
 // Whether the flags of these components are 0 or 1.
@@ -113,13 +111,13 @@ fn are_flat_components(all: &[FlatComponent]) -> bool
 fn flat_flags(from: [bool; MOST_COMPONENTS]) -> [u8; MOST_COMPONENTS]
     ensures { result ≡ flat_flags from }
 {
-    from.map(u8::from)
+    array::from_fn(|i| u8::from(from[i]))
 }
 
 fn flags(from: [u8; MOST_COMPONENTS]) -> [bool; MOST_COMPONENTS]
     ensures { result ≡ flags_in from }
 {
-    from.map(|flag| flag == 1)
+    array::from_fn(|i| from[i] == 1)
 }
 
 fn are_flags(all: &[u8]) -> bool
@@ -128,16 +126,18 @@ fn are_flags(all: &[u8]) -> bool
     all.iter().all(|flag| *flag <= 1)
 }
 
-#[tactic(auto, unfolding(crate::specs::Records::flat_board))]
-fn flat_board(b: Board) -> FlatBoard
-    ensures { result ≡ flat_board b }
-{
-    FlatBoard {
-        components: b.components,
-        cpus: b.cpus,
-        first: b.first,
-        last: b.last,
-        component: flat_components(&b.component),
+impl From<Board> for FlatBoard {
+    ghost from_gives = { λ b f. f ≡ flat_board b };
+
+    #[tactic(auto, unfolding(crate::specs::Records::flat_board))]
+    fn from(b: Board) -> FlatBoard {
+        FlatBoard {
+            components: b.components,
+            cpus: b.cpus,
+            first: b.first,
+            last: b.last,
+            component: flat_components(&b.component),
+        }
     }
 }
 
@@ -156,25 +156,27 @@ pub(crate) fn has_flags(b: FlatBoard) -> bool
     are_flat_components(&b.component[..within_count(b.components)])
 }
 
-#[tactic(auto, unfolding(crate::specs::Records::board_in))]
-pub(crate) fn board(b: FlatBoard) -> Board
-    ensures { result ≡ board_in b }
-{
-    Board {
-        components: b.components,
-        cpus: b.cpus,
-        first: b.first,
-        last: b.last,
-        component: components(&b.component),
+impl From<FlatBoard> for Board {
+    ghost from_gives = { λ f b. b ≡ board_in f };
+
+    #[tactic(auto, unfolding(crate::specs::Records::board_in))]
+    fn from(f: FlatBoard) -> Board {
+        Board {
+            components: f.components,
+            cpus: f.cpus,
+            first: f.first,
+            last: f.last,
+            component: components(&f.component),
+        }
     }
 }
 
-// A record whose board is already there as numbers.
+// A record whose board is already there as numbers: no `From`, as it takes both.
 #[tactic(auto, unfolding(crate::specs::Records::flat_with))]
 pub(crate) fn flat_with(b: FlatBoard, rec: Record) -> FlatRecord
     ensures { result ≡ flat_with b rec }
 {
-    // named first: the check takes an array's field into a struct only so
+    // named first: put in straight they have no proof
     let version = rec.version;
     let entry = rec.entry;
     let context = rec.context;
@@ -182,8 +184,8 @@ pub(crate) fn flat_with(b: FlatBoard, rec: Record) -> FlatRecord
         board: b,
         pending: flat_flags(rec.pending),
         version,
-        state: board_record::place_of(rec.state) as u64,
-        subject: board_record::subject_number(rec.state),
+        state: rec.state.place() as u64,
+        subject: rec.state.subject_number(),
         on: rec.on,
         held: rec.held,
         entry,
@@ -192,30 +194,34 @@ pub(crate) fn flat_with(b: FlatBoard, rec: Record) -> FlatRecord
     }
 }
 
-pub(crate) fn flat(rec: Record) -> FlatRecord
-    ensures { result ≡ flat_of rec }
-{
-    flat_with(flat_board(rec.board), rec)
+impl From<Record> for FlatRecord {
+    ghost from_gives = { λ r f. f ≡ flat_of r };
+
+    fn from(rec: Record) -> FlatRecord {
+        flat_with(FlatBoard::from(rec.board), rec)
+    }
 }
 
-#[tactic(auto, unfolding(crate::specs::Records::record_in))]
-pub(crate) fn record(f: FlatRecord) -> Record
-    ensures { result ≡ record_in f }
-{
-    // named first: the check takes an array's field into a struct only so
-    let version = f.version;
-    let entry = f.entry;
-    let context = f.context;
-    Record {
-        board: board(f.board),
-        pending: flags(f.pending),
-        version,
-        state: state(f.state, f.subject),
-        on: f.on,
-        held: f.held,
-        entry,
-        context,
-        informed: f.informed == 1,
+impl From<FlatRecord> for Record {
+    ghost from_gives = { λ f r. r ≡ record_in f };
+
+    #[tactic(auto, unfolding(crate::specs::Records::record_in))]
+    fn from(f: FlatRecord) -> Record {
+        // named first: put in straight they have no proof
+        let version = f.version;
+        let entry = f.entry;
+        let context = f.context;
+        Record {
+            board: Board::from(f.board),
+            pending: flags(f.pending),
+            version,
+            state: state(f.state, f.subject),
+            on: f.on,
+            held: f.held,
+            entry,
+            context,
+            informed: f.informed == 1,
+        }
     }
 }
 
@@ -247,8 +253,8 @@ pub(crate) fn zeros() -> FlatRecord
         version: [0; MOST_COMPONENTS],
         state: 0,
         subject: 0,
-        on: cpuset::none(),
-        held: cpuset::none(),
+        on: CpuSet::none(),
+        held: CpuSet::none(),
         entry: [0; MOST_CPUS],
         context: [0; MOST_CPUS],
         informed: 0,

@@ -9,14 +9,13 @@ use mathlib.Core.List.{List, [], ◌∷◌, ◌++◌}
 use native.Mathlib.Nat.{add_assoc, add-zero, add-mul, mul_assoc, mul-one, one-mul, one-le-pow, mul-le-mul_left, le-div_iff_mul-le, div-lt_iff_lt-mul, pow-zero, pow-suc}
 use native.Mathlib.Numerals.{add-one}
 use native.Mathlib.Omega.{arith}
-use borrow.Author.Tests.{lt-ltb, le-ltb, le-leb, leb-true, eqb-true}
-use lib.Dec.{leb, eqb}
+use borrow.Author.Tests.{lt-ltb, le-ltb, le-leb, leb-true}
+use lib.Dec.{leb}
 use lib.ListN.{length, get_or, take, drop, length-append, take-append-drop, get_or-eq_default}
 use lib.Seq.{take-suc, take-length}
 use lib.Pow.{pow-add}
 use Rattle.basics.specs.Choice.{refuted, both}
 use Rattle.basics.specs.Every.{all_below, all-fails}
-use Rattle.basics.specs.Order.{lt-cases}
 use Rattle.given.specs.Numerals.{is_from, digit_of, is_digit_at, value_of, is_number, written_in, is_hex}
 
 inside : (first last : Char) (b : ℕ) → code first ≤ b → b ≤ code last → is_from first last b ≡ true
@@ -96,14 +95,7 @@ module _ (v d base most : ℕ) where
   pub passes : (most - d) / base < v → 0 < base → d ≤ most → most < v * base + d
   passes g b l = omega (arith, (div-lt_iff_lt-mul b).0 g)
 
--- a word that opens with `0x` has both bytes
-pub hex-long : (word : List ℕ) → is_hex word ≡ true → 2 ≤ length word
-unfolding is_hex
-hex-long word e =
-    let x = eqb-true (get_or word 1 0) (code "x") (both (eqb (get_or word 0 0) (code "0")) (eqb (get_or word 1 0) (code "x")) e).1 in
-    lt-cases (length word) 2 (λ l. absurd (omega (arith, get_or-eq_default word 0 {n = 1} (omega arith)))) (λ l. l)
-
--- a shorter word does not open so
+-- a word of fewer than two bytes does not open with `0x`
 pub short : (word : List ℕ) → length word < 2 → is_hex word ≡ false
 unfolding is_hex
 short word h = rw (get_or-eq_default word 0 {n = 1} (omega arith), and-false)

@@ -1,8 +1,6 @@
 // Digits, and the numbers that they write.
 ghost use Rattle.std.specs.Prelude.{◌≡◌, ◌<◌, ◌≤◌};
-ghost use Rattle.given.specs.Numerals.{digit_of, written_in, is_hex};
-
-use crate::MARK;
+ghost use Rattle.given.specs.Numerals.{digit_of, written_in};
 
 // What a byte is as a digit; 16, which is none in either base, for any other.
 #[tactic(auto, using(crate::proofs::Laws::decimal, crate::proofs::Laws::lower, crate::proofs::Laws::upper, crate::proofs::Laws::other))]
@@ -35,12 +33,4 @@ pub(crate) fn written(s: &[u8], base: u64) -> Option<u64>
         v = v * base + d;
     }
     Some(v)
-}
-
-// Whether a word opens with `0x`.
-#[tactic(auto, using(crate::proofs::Laws::short), unfolding(crate::specs::Numerals::is_hex))]
-pub(crate) fn is_hex(word: &[u8]) -> bool
-    ensures { result ≡ is_hex word.now }
-{
-    word.len() >= MARK && word[0] == b'0' && word[1] == b'x'
 }

@@ -39,6 +39,7 @@ fn read_full<R: Read>(file: &mut R, buf: &mut [u8]) -> usize
     ensures within { IsPrefixLen result buf.new }
     ensures bytes { Consumes (R.remaining file.old) (R.remaining file.new) (take result buf.new) }
 {
+    // counts what each read gave; `read_exact` doesn't say how much came before the end
     let mut done: usize = 0;
     while done < buf.len() {
         match file.read(&mut buf[done..]) {
@@ -58,7 +59,8 @@ fn is_at_end<R: Read>(file: &mut R) -> bool
     matches!(file.read(&mut byte), Ok(0))
 }
 
-// Fills a buffer from an open file, or another input, as far as that goes. One that breaks off is unread.
+// Fills a buffer from an open file, or another input, as far as that goes, and answers with how many bytes; with none where it breaks
+// off.
 pub fn fill<R: Read>(file: &mut R, buf: &mut [u8]) -> Option<usize>
     ensures within { IsIn result buf.new }
     ensures reads { HasRead (R.remaining file.old) result buf.new }

@@ -17,19 +17,18 @@ pub const WORD_ROOM: usize = 131_072;
 // Room for any path, and one byte more: a name that fills it is none.
 const PATH_ROOM: usize = 4096;
 
-// The two bases, and the bytes of `0x`.
+// The two bases.
 const DECIMAL: u64 = 10;
 
 const HEX: u64 = 16;
 
-const MARK: usize = 2;
-
 // What went wrong, which is no answer. Where that can't be written either, there is nothing more to say.
+// Bytes, and no format: a word or a name may be no text.
 fn say(stderr: &impl Print, s: &[u8]) {
     let _ = stderr.write_all(s);
 }
 
-// Reads the file that argument i names; says so where it can't be.
+// Reads the file that argument i names, and answers how many bytes it has; says so where it can't be read, and answers none.
 pub fn read_file<R: Env + Files>(
     rt: &R,
     stderr: &impl Print,
@@ -40,24 +39,21 @@ pub fn read_file<R: Env + Files>(
 {
     let mut path = [0u8; PATH_ROOM];
     let n = files::name(rt, i, &mut path);
-    let read = match files::open(rt, &path[..n]) {
-        Some(mut file) => fill(&mut file, buf),
-        None => None,
-    };
-    if let None = read {
+    let read = files::open(rt, &path[..n]).and_then(|mut file| fill(&mut file, buf));
+    if read.is_none() {
         files::say_unread(stderr, &path[..n]);
     }
     read
 }
 
 // The number that a word says: in hex digits after `0x`, else in decimal ones.
+#[tactic(auto, using(crate::proofs::Laws::short), unfolding(crate::specs::Numerals::numeral_of, crate::specs::Numerals::is_hex))]
 fn number_in(word: &[u8]) -> Option<u64>
     ensures { result ≡ numeral_of word.now }
 {
-    if digits::is_hex(word) {
-        digits::written(&word[MARK..], HEX)
-    } else {
-        digits::written(word, DECIMAL)
+    match word {
+        [b'0', b'x', hex @ ..] => digits::written(hex, HEX),
+        _ => digits::written(word, DECIMAL),
     }
 }
 

@@ -31,11 +31,7 @@ fn line(rt: &impl Print, lead: Lead, delivery: &[u8], r: LogRecord) -> io::Resul
 
 // The words of a refusal, whether a delivery or the end of input brought it.
 fn refusal(rt: &impl Print, x: Refusal) -> io::Result<()> {
-    println!(rt;
-        "refused {} at {}",
-        deliveries::number(x),
-        deliveries::place(x)
-    )
+    println!(rt; "refused {} at {}", u64::from(x), x.place())
 }
 
 // The line of a delivery that is refused.
@@ -51,8 +47,9 @@ fn deliver(rt: &impl Print, first: Lead, delivery: &[u8]) -> io::Result<Lead>
 {
     let mut lead = first;
     let mut rest = delivery;
+    // no `for`: how far a turn goes is what its call used
     while !rest.is_empty() {
-        let taken = deliveries::take(lead, rest);
+        let taken = lead.take(rest);
         let next = taken.lead;
         match taken.given {
             Ok(None) => return Ok(next),
@@ -86,7 +83,7 @@ fn unended(rt: &impl Print, lead: Lead, x: Refusal) -> io::Result<()>
 
 // The last line, where input ends.
 fn end(rt: &impl Print, lead: Lead) -> io::Result<()> {
-    match deliveries::close(lead).ending {
+    match lead.close().ending {
         Ok(n) => closed(rt, lead, n),
         Err(x) => unended(rt, lead, x),
     }
@@ -102,7 +99,8 @@ fn main(rt: HostRuntime) -> io::Result<()> {
     println!(rt; "place kind cpu code outcome word1 word2 word3 word4 word5 word6")?;
     let mut buf = [0u8; ROOM];
     let mut input = rt.stdin();
-    let mut lead = deliveries::open();
+    let mut lead = Lead::open();
+    // no `for`: how many reads there are is the input's matter
     while is_open(lead) {
         let Ok(n) = input.read(&mut buf) else {
             return rt.eprintln("cannot read standard input");

@@ -18,7 +18,7 @@ fn is_activate(call: Call) -> bool
 fn accepted_from(b: Board, s: Story, cpu: u64) -> bool
     ensures { result ≡ accepted_from b s cpu }
 {
-    cpu < b.cpus && cpuset::has(s.powered, cpu) && !cpuset::has(telling::every_held(s.held), cpu)
+    cpu < b.cpus && s.powered.has(cpu) && !telling::every_held(s.held).has(cpu)
 }
 
 // X1 to X3 are those of an ACTIVATE for component c, without skip.
@@ -26,7 +26,7 @@ fn accepted_from(b: Board, s: Story, cpu: u64) -> bool
 fn fields_valid(b: Board, call: Call, c: u64) -> bool
     ensures { result ≡ fields_valid b call c }
 {
-    c < b.components && call.x1 == c && call.x2 == 0 && board::is_entry_right(b, c, call.x3)
+    c < b.components && call.x1 == c && call.x2 == 0 && b.is_entry_right(c, call.x3)
 }
 
 // Nobody skipped the rendezvous, and all other powered CPUs came in that time: none is beyond the sets.
@@ -34,12 +34,8 @@ fn fields_valid(b: Board, call: Call, c: u64) -> bool
 fn all_gathered(s: Story, cpu: u64) -> bool
     ensures { result ≡ (not s.alone && others_gathered s cpu) }
 {
-    !s.alone
-        && !s.beyond
-        && cpuset::within(
-            cpuset::without(s.powered, cpu),
-            telling::every_held(s.gathered),
-        )
+    let others = s.powered.without(cpu);
+    !s.alone && !s.beyond && others.within(telling::every_held(s.gathered))
 }
 
 // All that demand 3 asks for but that component c is prepared.

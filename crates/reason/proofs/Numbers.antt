@@ -29,7 +29,6 @@ use Rattle.reason.specs.Explained.{called_by, outcome_at, called_of, explained_b
 use Rattle.reason.specs.Numbers.{because_of, refused_with, numbers_of, Explains}
 use Rattle.reason.specs.declared.Activate.{Activate}
 use Rattle.history.specs.declared.Stop.TheVariants as stop
-use Rattle.reason.specs.declared.Unexplained.TheVariants as unexplained
 use Rattle.agent.specs.declared.Answer.{Answer}
 use Rattle.rules.specs.declared.Refusal.{Refusal}
 use Rattle.history.specs.declared.Stop.{Stop}
@@ -62,7 +61,7 @@ module _ (r : Record) (a : Activate) where
     then_reason = λ z. refl;
   }
 
-  explains-by : (e : Result Unit Stop) → (e ≡ (Ok tt) → well_formed r ≡ true) → Explains (walked r e) a (numbers_of (explained_by e r a))
+  explains-by : (e : Result Unit Stop) → (e ≡ Ok tt → well_formed r ≡ true) → Explains (walked r e) a (numbers_of (explained_by e r a))
   unfolding called_of refused_with
   explains-by (Ok tt) w = called-explains (w refl) (outcome_at r a) refl
   explains-by (Err (stop.Departs d)) w = record {

@@ -2,12 +2,22 @@
 use Rattle.basics.proofs.Pin.{OneOutcome, just}
 use Rattle.reason.proofs.explain.Kinds as explain-kinds
 use Rattle.reason.proofs.explain.Reads as explain-reads
-use Rattle.reason.proofs.number.Kinds as number-kinds
-use Rattle.reason.proofs.number.Reads as number-reads
-use Rattle.reason.proofs.component.Kinds as component-kinds
-use Rattle.reason.proofs.component.Reads as component-reads
-use Rattle.reason.proofs.missing.Kinds as missing-kinds
-use Rattle.reason.proofs.missing.Reads as missing-reads
+use Rattle.reason.proofs.Reason.number.Kinds as number-kinds
+use Rattle.reason.proofs.Reason.number.Reads as number-reads
+use Rattle.reason.proofs.Reason.component.Kinds as component-kinds
+use Rattle.reason.proofs.Reason.component.Reads as component-reads
+use Rattle.reason.proofs.Reason.missing.Kinds as missing-kinds
+use Rattle.reason.proofs.Reason.missing.Reads as missing-reads
+use Rattle.reason.proofs.UnexplainedFromStop.from.Kinds as from-stop-kinds
+use Rattle.reason.proofs.UnexplainedFromStop.from.Reads as from-stop-reads
+use Rattle.reason.proofs.UnexplainedFromRefusal.from.Kinds as from-refusal-kinds
+use Rattle.reason.proofs.UnexplainedFromRefusal.from.Reads as from-refusal-reads
+
+pub from-stop-pinned : OneOutcome 0 from-stop-kinds.ps from-stop-kinds.r from-stop-reads.Post
+from-stop-pinned κs a z z' ws ws' p q = just p q
+
+pub from-refusal-pinned : OneOutcome 0 from-refusal-kinds.ps from-refusal-kinds.r from-refusal-reads.Post
+from-refusal-pinned κs a z z' ws ws' p q = just p q
 
 pub explain-pinned : OneOutcome 2 explain-kinds.ps explain-kinds.r explain-reads.Post
 explain-pinned κs a z z' ws ws' p q = just p.0 q.0

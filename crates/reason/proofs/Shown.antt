@@ -50,7 +50,6 @@ use Rattle.reason.specs.declared.Reason.{Reason}
 use Rattle.reason.specs.declared.Reason.TheVariants.{Held, AllPresent}
 use Rattle.reason.proofs.Answered.{started_by, accepted-fits}
 use Rattle.reason.proofs.Numbers.{outcome-number}
-use Rattle.reader.specs.declared.Refusal.TheVariants as refusal
 use Rattle.history.specs.declared.Stop.TheVariants as stop
 use Rattle.reason.specs.declared.Unexplained.TheVariants as unexplained
 use Rattle.history.specs.declared.Stop.{Stop}
@@ -93,7 +92,7 @@ module _ (r : Record) (a : Activate) where
 
   -- ---- what is given where a reason is
   record Given (e : Result Unit Stop) (x : Reason) : Type 0 where
-    agrees : e ≡ (Ok tt)
+    agrees : e ≡ Ok tt
     answer : Answer
     accepted : outcome_at r a ≡ Ok answer
     reason : reason_of r a ≡ x

@@ -20,7 +20,6 @@ use Rattle.reason.specs.Numbers.{answer_for}
 use Rattle.reason.specs.declared.Activate.{Activate}
 use Rattle.reason.specs.declared.Reason.{Reason}
 use Rattle.reason.specs.declared.Reason.TheVariants.{Held, AllPresent}
-use Rattle.reader.specs.declared.Refusal.TheVariants as refusal
 use Rattle.reason.specs.declared.Unexplained.TheVariants as unexplained
 
 -- the board's record where the walk ended
@@ -29,7 +28,7 @@ there board log place = (walked_of board log place).rec
 
 -- no refusal comes: the walk gets to the place (so board and log read, and no record departs), and 2, 3 and 4 don't apply
 pub record IsAsked (board log : List ℕ) (place : ℕ) (a : Activate) : Type 0 where
-  pub agrees : (walked_of board log place).ended ≡ (Ok tt)
+  pub agrees : (walked_of board log place).ended ≡ Ok tt
   pub caller : first_of (rows_for (there board log place) (event.Call (call_of a))) ≡ 0
 
 -- the rules there, and what stands for one that there isn't

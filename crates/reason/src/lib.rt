@@ -50,7 +50,7 @@ pub enum Reason {
     AllPresent,
 }
 
-// Why there is none: the board's refusal, the log's, the place of the first record that is not the agent's own, or the caller's.
+// Why there is no reason: the board's refusal, the log's, the place of the first record that is not the agent's own, or the caller's.
 #[derive(Clone, Copy)]
 pub enum Unexplained {
     Board(board::Refusal),
@@ -116,49 +116,52 @@ pub fn explain(board: &[u8], log: &[u8], place: usize, a: Activate) -> Result<Re
     called(walked.rec, a)
 }
 
-// The number of a reason, from 1 on.
-pub fn number(x: Reason) -> u64
-    ensures { result ≡ number_of x }
-{
-    match x {
-        Reason::NothingPrepared => 1,
-        Reason::BeingPrepared(_) => 2,
-        Reason::HalfPrepared(_) => 3,
-        Reason::BoardDead => 4,
-        Reason::WasWithdrawn(_) => 15,
-        Reason::OtherComponent(_) => 5,
-        Reason::OtherFlags => 6,
-        Reason::NotOptional => 7,
-        Reason::SkipInGathering => 8,
-        Reason::NoSkip => 9,
-        Reason::BadEntry => 10,
-        Reason::BeingActivated(_) => 11,
-        Reason::Skipped => 12,
-        Reason::Held(_) => 13,
-        Reason::AllPresent => 14,
+impl Reason {
+    // The number of a reason, from 1 on.
+    pub fn number(self) -> u64
+        ensures { result ≡ number_of self }
+    {
+        // an arm each: no rule gives these numbers
+        match self {
+            Reason::NothingPrepared => 1,
+            Reason::BeingPrepared(_) => 2,
+            Reason::HalfPrepared(_) => 3,
+            Reason::BoardDead => 4,
+            Reason::WasWithdrawn(_) => 15,
+            Reason::OtherComponent(_) => 5,
+            Reason::OtherFlags => 6,
+            Reason::NotOptional => 7,
+            Reason::SkipInGathering => 8,
+            Reason::NoSkip => 9,
+            Reason::BadEntry => 10,
+            Reason::BeingActivated(_) => 11,
+            Reason::Skipped => 12,
+            Reason::Held(_) => 13,
+            Reason::AllPresent => 14,
+        }
     }
-}
 
-// The component that a reason names; 0 where it names none.
-pub fn component(x: Reason) -> u64
-    ensures { result ≡ component_in x }
-{
-    match x {
-        Reason::BeingPrepared(c)
-        | Reason::HalfPrepared(c)
-        | Reason::WasWithdrawn(c)
-        | Reason::OtherComponent(c)
-        | Reason::BeingActivated(c) => c,
-        _ => 0,
+    // The component that a reason names; 0 where it names none.
+    pub fn component(self) -> u64
+        ensures { result ≡ component_in self }
+    {
+        match self {
+            Reason::BeingPrepared(c)
+            | Reason::HalfPrepared(c)
+            | Reason::WasWithdrawn(c)
+            | Reason::OtherComponent(c)
+            | Reason::BeingActivated(c) => c,
+            _ => 0,
+        }
     }
-}
 
-// The CPUs that a reason names as missing; none where it names none.
-pub fn missing(x: Reason) -> CpuSet
-    ensures { result ≡ missing_in x }
-{
-    match x {
-        Reason::Held(s) => s,
-        _ => cpuset::none(),
+    // The CPUs that a reason names as missing; none where it names none.
+    pub fn missing(self) -> CpuSet
+        ensures { result ≡ missing_in self }
+    {
+        match self {
+            Reason::Held(s) => s,
+            _ => CpuSet::none(),
+        }
     }
 }

@@ -5,7 +5,7 @@ ghost use Rattle.reason.specs.Reason.{missing_of, skip_rows, answer_rows, join_r
 ghost use Rattle.reason.specs.declared.Reason.TheVariants.{AllPresent};
 
 use crate::{Activate, Reason};
-use board_record::{DEAD, HALF_PREPARED, IDLE, PREPARING, Record, WITHDRAWN};
+use board_record::{Record, State};
 use cpuset::CpuSet;
 
 // Whom a rendezvous waits for: the powered CPUs that are not held and are not the caller; none that is off.
@@ -13,7 +13,7 @@ use cpuset::CpuSet;
 fn still_missing(rec: Record, cpu: u64) -> CpuSet
     ensures { result ≡ missing_of rec cpu }
 {
-    cpuset::less(cpuset::without(rec.on, cpu), rec.held)
+    rec.on.without(cpu).less(rec.held)
 }
 
 // The call is granted: it skips, or the caller joins those who wait.
@@ -23,7 +23,7 @@ fn joined(rec: Record, a: Activate) -> Reason
 {
     if a.x2 == 1 {
         Reason::Skipped
-    } else if cpuset::same(cpuset::with(rec.held, a.cpu), rec.on) {
+    } else if rec.held.with(a.cpu).same(rec.on) {
         Reason::AllPresent
     } else {
         Reason::Held(still_missing(rec, a.cpu))
@@ -34,10 +34,10 @@ fn joined(rec: Record, a: Activate) -> Reason
 fn answered(rec: Record, a: Activate) -> Reason
     ensures { result ≡ first_in AllPresent (answer_rows rec a ++ join_rows rec a) }
 {
-    if !board::is_entry_right(rec.board, a.x1, a.x3) {
+    if !rec.board.is_entry_right(a.x1, a.x3) {
         Reason::BadEntry
-    } else if board_record::is_alone(rec.state) {
-        Reason::BeingActivated(board_record::subject_number(rec.state))
+    } else if let State::Alone(c) = rec.state {
+        Reason::BeingActivated(c)
     } else {
         joined(rec, a)
     }
@@ -49,11 +49,11 @@ fn skipping(rec: Record, a: Activate) -> Reason
     ensures { result ≡ first_in AllPresent (skip_rows rec a ++ (answer_rows rec a ++ join_rows rec a)) }
 {
     let skip = a.x2 == 1;
-    if skip && !board::numbered(rec.board, a.x1).optional {
+    if skip && !rec.board.numbered(a.x1).optional {
         Reason::NotOptional
-    } else if skip && board_record::is_gathering(rec.state) {
+    } else if skip && rec.state.is_gathering() {
         Reason::SkipInGathering
-    } else if !skip && board_record::skips_rendezvous(rec.state) {
+    } else if !skip && rec.state.skips_rendezvous() {
         Reason::NoSkip
     } else {
         answered(rec, a)
@@ -65,8 +65,8 @@ fn skipping(rec: Record, a: Activate) -> Reason
 fn asked(rec: Record, a: Activate) -> Reason
     ensures { result ≡ first_in AllPresent (ask_rows rec a ++ (skip_rows rec a ++ (answer_rows rec a ++ join_rows rec a))) }
 {
-    if !board_record::is_for(rec.state, a.x1) {
-        Reason::OtherComponent(board_record::subject_number(rec.state))
+    if !rec.state.is_for(a.x1) {
+        Reason::OtherComponent(rec.state.subject_number())
     } else if a.x2 > 1 {
         Reason::OtherFlags
     } else {
@@ -79,12 +79,12 @@ fn asked(rec: Record, a: Activate) -> Reason
 pub(crate) fn reason(rec: Record, a: Activate) -> Reason
     ensures { result ≡ reason_of rec a }
 {
-    match board_record::place_of(rec.state) {
-        IDLE => Reason::NothingPrepared,
-        PREPARING => Reason::BeingPrepared(board_record::subject_number(rec.state)),
-        HALF_PREPARED => Reason::HalfPrepared(board_record::subject_number(rec.state)),
-        DEAD => Reason::BoardDead,
-        WITHDRAWN => Reason::WasWithdrawn(board_record::subject_number(rec.state)),
+    match rec.state {
+        State::Idle => Reason::NothingPrepared,
+        State::Preparing(c) => Reason::BeingPrepared(c),
+        State::HalfPrepared(c) => Reason::HalfPrepared(c),
+        State::Dead => Reason::BoardDead,
+        State::Withdrawn(c) => Reason::WasWithdrawn(c),
         _ => asked(rec, a),
     }
 }

@@ -52,7 +52,7 @@ fn lines(rt: &impl Print, log: &[u8], n: usize) -> io::Result<()>
 fn refused(rt: &impl Print, log: &[u8], f: Flaw) -> io::Result<()>
     requires { checked_of log.now 0 ≡ Err f }
 {
-    println!(rt; "refused {} at {}", log_record::number(f.refusal), f.place)
+    println!(rt; "refused {} at {}", u64::from(f.refusal), f.place)
 }
 
 fn replay(rt: &impl Print, log: &[u8]) -> io::Result<()> {

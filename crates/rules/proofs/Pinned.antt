@@ -1,7 +1,7 @@
 -- Each public function's promise leaves one outcome. Assumes nothing.
 use Rattle.basics.proofs.Pin.{OneOutcome, just}
-use Rattle.rules.proofs.number.Kinds as number-kinds
-use Rattle.rules.proofs.number.Reads as number-reads
+use Rattle.rules.proofs.U64FromRefusal.from.Kinds as from-kinds
+use Rattle.rules.proofs.U64FromRefusal.from.Reads as from-reads
 use Rattle.rules.proofs.minus.Kinds as minus-kinds
 use Rattle.rules.proofs.minus.Reads as minus-reads
 use Rattle.rules.proofs.admit.Kinds as admit-kinds
@@ -9,8 +9,8 @@ use Rattle.rules.proofs.admit.Reads as admit-reads
 use Rattle.rules.proofs.decide.Kinds as decide-kinds
 use Rattle.rules.proofs.decide.Reads as decide-reads
 
-pub number-pinned : OneOutcome 0 number-kinds.ps number-kinds.r number-reads.Post
-number-pinned κs a z z' ws ws' p q = just p q
+pub from-refusal-pinned : OneOutcome 0 from-kinds.ps from-kinds.r from-reads.Post
+from-refusal-pinned κs a z z' ws ws' p q = just p q
 
 pub minus-pinned : OneOutcome 0 minus-kinds.ps minus-kinds.r minus-reads.Post
 minus-pinned κs a z z' ws ws' p q = just p q

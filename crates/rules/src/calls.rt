@@ -9,6 +9,7 @@ use crate::{Arrival, Move, Refusal, Registers, Waking};
 use board::Component;
 use board_record::{Record, State};
 use codes::{CANCEL, Call, VERSION};
+use cpuset::CpuSet;
 
 // The caller goes on with X0, and 0 in the other registers.
 #[tactic(auto, unfolding(crate::specs::Calls::returned))]
@@ -98,7 +99,7 @@ fn inventory(rec: Record, x1: u64) -> Move
         return say(8);
     }
     Move::Return(described(
-        board::numbered(rec.board, x1),
+        rec.board.numbered(x1),
         board_record::is_pending(rec.pending, x1),
     ))
 }
@@ -107,7 +108,7 @@ fn inventory(rec: Record, x1: u64) -> Move
 fn may_prime(rec: Record, id: u64) -> bool
     ensures { result ≡ may_prime rec id }
 {
-    board::is_capable(rec.board, id) && board_record::is_pending(rec.pending, id)
+    rec.board.is_capable(id) && board_record::is_pending(rec.pending, id)
 }
 
 // A caller that becomes held; where it resumes is kept only for a rendezvous with may_reset.
@@ -131,7 +132,7 @@ fn try_prime(rec: Record, call: Call) -> Move
     if !may_prime(rec, call.x1) {
         return say(7);
     }
-    if board_record::version_of(rec.version, call.x1) < board::numbered(rec.board, call.x1).svn {
+    if board_record::version_of(rec.version, call.x1) < rec.board.numbered(call.x1).svn {
         return say(3);
     }
     Move::StartPrime(arrival(call, false))
@@ -141,7 +142,7 @@ fn try_prime(rec: Record, call: Call) -> Move
 fn try_same(rec: Record, call: Call) -> Move
     ensures { result ≡ try_same_of rec call }
 {
-    if board_record::is_for(rec.state, call.x1) {
+    if rec.state.is_for(call.x1) {
         try_prime(rec, call)
     } else {
         say(7)
@@ -165,9 +166,9 @@ fn is_skip_right(c: Component, s: State, skip: bool) -> bool
     ensures { result ≡ skip_right c s skip }
 {
     if skip {
-        !board_record::is_gathering(s) && c.optional
+        !s.is_gathering() && c.optional
     } else {
-        !board_record::skips_rendezvous(s)
+        !s.skips_rendezvous()
     }
 }
 
@@ -176,9 +177,9 @@ fn is_skip_right(c: Component, s: State, skip: bool) -> bool
 fn are_fields_right(rec: Record, call: Call) -> bool
     ensures { result ≡ fields_right rec call }
 {
-    board_record::is_for(rec.state, call.x1)
+    rec.state.is_for(call.x1)
         && call.x2 <= 1
-        && is_skip_right(board::numbered(rec.board, call.x1), rec.state, call.x2 == 1)
+        && is_skip_right(rec.board.numbered(call.x1), rec.state, call.x2 == 1)
 }
 
 // The caller joins those that are held: the last of the powered CPUs starts the activation.
@@ -186,8 +187,8 @@ fn are_fields_right(rec: Record, call: Call) -> bool
 fn join(rec: Record, call: Call) -> Move
     ensures { result ≡ join_of rec call }
 {
-    let a = arrival(call, board::may_reset(rec.board, call.x1));
-    if cpuset::same(cpuset::with(rec.held, call.cpu), rec.on) {
+    let a = arrival(call, rec.board.may_reset(call.x1));
+    if rec.held.with(call.cpu).same(rec.on) {
         Move::StartTogether(a)
     } else {
         Move::Gather(a)
@@ -201,10 +202,10 @@ fn try_activate(rec: Record, call: Call) -> Move
     if !are_fields_right(rec, call) {
         return say(8);
     }
-    if !board::is_entry_right(rec.board, call.x1, call.x3) {
+    if !rec.board.is_entry_right(call.x1, call.x3) {
         return say(10);
     }
-    if board_record::is_alone(rec.state) {
+    if rec.state.is_alone() {
         return say(2);
     }
     if call.x2 == 1 {
@@ -227,7 +228,7 @@ fn activate(rec: Record, call: Call) -> Move
 fn is_other(s: State, id: u64) -> bool
     ensures { result ≡ is_other s id }
 {
-    matches!(board_record::subject_of(s), Some(c) if c != id)
+    matches!(s.subject(), Some(c) if c != id)
 }
 
 #[tactic(auto, unfolding(crate::specs::Calls::cancel_of))]
@@ -249,7 +250,7 @@ fn cancel(rec: Record, call: Call) -> Move
 fn off_free(rec: Record, cpu: u64) -> Move
     ensures { result ≡ off_free rec cpu }
 {
-    if cpuset::same(rec.on, cpuset::only(cpu)) {
+    if rec.on.same(CpuSet::only(cpu)) {
         say(3)
     } else {
         Move::PowerOff(cpu)
@@ -290,7 +291,7 @@ fn on(rec: Record, call: Call) -> Move
     if !board::good_entry(rec.board.first, rec.board.last, call.x2) {
         return say(9);
     }
-    if cpuset::has(rec.on, call.x1) {
+    if rec.on.has(call.x1) {
         return say(4);
     }
     wake(rec.state, call)
@@ -330,10 +331,10 @@ pub(crate) fn call(rec: Record, call: Call) -> Move
     if rec.board.cpus <= call.cpu {
         return Move::Refuse(Refusal::NoSuchCpu);
     }
-    if !cpuset::has(rec.on, call.cpu) {
+    if !rec.on.has(call.cpu) {
         return Move::Refuse(Refusal::CpuOff);
     }
-    if cpuset::has(rec.held, call.cpu) {
+    if rec.held.has(call.cpu) {
         return Move::Refuse(Refusal::CpuHeld);
     }
     answer(rec, call)

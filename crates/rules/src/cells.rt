@@ -5,7 +5,7 @@ ghost use Rattle.rules.specs.Table.{row_at, rule_of};
 
 use board_record::{STATES, State};
 
-// An enum for each call, and none over their kinds: specs/Calls.antt goes by these cases (`prime_by` and its like), which stay.
+// An enum for each call, and none over their kinds: specs/Calls.antt goes by these cases (`prime_by` and its like).
 
 // What PRIME does: the try, the try of the state's component alone, or a status -k.
 #[derive(Clone, Copy)]
@@ -132,5 +132,5 @@ fn row_at(i: usize) -> Row
 pub(crate) fn rule(s: State) -> Row
     ensures { result ≡ rule_of s }
 {
-    row_at(board_record::place_of(s))
+    row_at(s.place())
 }

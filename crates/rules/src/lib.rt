@@ -102,19 +102,21 @@ pub enum Move {
 }
 
 // The number of a refusal.
-pub fn number(r: Refusal) -> u64
-    ensures { result ≡ number_of r }
-{
-    match r {
-        Refusal::NotWellFormed => 9,
-        Refusal::TableShort => 1,
-        Refusal::NoSuchCpu => 2,
-        Refusal::CpuOff => 3,
-        Refusal::CpuHeld => 4,
-        Refusal::NoSuchJob => 5,
-        Refusal::CodeNotAllowed => 6,
-        Refusal::NotCapable => 7,
-        Refusal::StateComponent => 8,
+impl From<Refusal> for u64 {
+    ghost from_gives = { λ r n. n ≡ number_of r };
+
+    fn from(r: Refusal) -> u64 {
+        match r {
+            Refusal::NotWellFormed => 9,
+            Refusal::TableShort => 1,
+            Refusal::NoSuchCpu => 2,
+            Refusal::CpuOff => 3,
+            Refusal::CpuHeld => 4,
+            Refusal::NoSuchJob => 5,
+            Refusal::CodeNotAllowed => 6,
+            Refusal::NotCapable => 7,
+            Refusal::StateComponent => 8,
+        }
     }
 }
 
@@ -132,7 +134,7 @@ pub fn admit(rec: Record, entry_places: usize, context_places: usize) -> Result<
     ensures value { result ≡ admission_of rec entry_places context_places }
     ensures numbers { refusal_of result ≡ first_of (admission_rows rec entry_places context_places []) }
 {
-    if !board_record::is_well_formed(rec) {
+    if !rec.is_well_formed() {
         return Err(Refusal::NotWellFormed);
     }
     let cpus = rec.board.cpus;

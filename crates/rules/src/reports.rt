@@ -61,8 +61,8 @@ pub(crate) fn activate(rec: Record, report: Report) -> Move
     if !is_activating(rec.state, report.component) {
         return Move::Refuse(Refusal::NoSuchJob);
     }
-    let reset = board::may_reset(rec.board, report.component);
-    if !activate_allows(board_record::is_alone(rec.state), reset, report.code) {
+    let reset = rec.board.may_reset(report.component);
+    if !activate_allows(rec.state.is_alone(), reset, report.code) {
         return Move::Refuse(Refusal::CodeNotAllowed);
     }
     Move::EndActivate(report)
@@ -72,10 +72,10 @@ pub(crate) fn activate(rec: Record, report: Report) -> Move
 pub(crate) fn image(rec: Record, image: Image) -> Move
     ensures { result ≡ image_of rec image }
 {
-    if !board::is_capable(rec.board, image.component) {
+    if !rec.board.is_capable(image.component) {
         return Move::Refuse(Refusal::NotCapable);
     }
-    if board_record::is_for(rec.state, image.component) {
+    if rec.state.is_for(image.component) {
         return Move::Refuse(Refusal::StateComponent);
     }
     Move::NoteImage(image)

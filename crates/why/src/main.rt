@@ -31,16 +31,12 @@ fn line(
 {
     match e {
         Ok(x) => println!(rt; "{}", Because(x)),
-        Err(reason::Unexplained::Board(x)) => println!(rt; "board refused {}", board::number(x)),
+        Err(reason::Unexplained::Board(x)) => println!(rt; "board refused {}", u64::from(x)),
         Err(reason::Unexplained::Log(f)) => {
-            println!(rt;
-                "log refused {} at {}",
-                log_record::number(f.refusal),
-                f.place
-            )
+            println!(rt; "log refused {} at {}", u64::from(f.refusal), f.place)
         }
         Err(reason::Unexplained::Departs(k)) => println!(rt; "log refused {DEPARTS} at {k}"),
-        Err(reason::Unexplained::Call(x)) => println!(rt; "call refused {}", rules::number(x)),
+        Err(reason::Unexplained::Call(x)) => println!(rt; "call refused {}", u64::from(x)),
     }
 }
 
@@ -77,10 +73,7 @@ fn has_argument(rt: &impl Env, i: usize) -> bool {
 fn said(rt: &impl Env, stderr: &impl Print, i: usize) -> Option<u64> {
     let mut word = [0u8; given::WORD_ROOM];
     let n = rt.arg(i, &mut word).unwrap_or(0);
-    match given::read_number(stderr, &word[..n]) {
-        Some(v) => Some(v),
-        None => None,
-    }
+    given::read_number(stderr, &word[..n])
 }
 
 // The place, and the ACTIVATE there; says which word is the first that is no number.

@@ -11,7 +11,7 @@ impl fmt::Display for Listed {
     fn fmt<W: fmt::Write>(&self, f: &mut fmt::Formatter<W>) -> fmt::Result {
         let mut before = "";
         for cpu in 0..cpuset::ROOM {
-            if cpuset::has(self.0, cpu) {
+            if self.0.has(cpu) {
                 write!(f, "{before}{cpu}")?;
                 before = ", ";
             }

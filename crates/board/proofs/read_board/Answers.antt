@@ -1,10 +1,8 @@
 -- Each end gives `read_of`: by the first test that failed, or what both let through. The number follows from it, and that it writes
 -- back, since the slice holds bytes.
-use Rattle.std.proofs.Common.{arith, sym, ◌∙◌, ◌≡◌, List, ℕ, Result}
+use Rattle.std.proofs.Common.{arith, sym, ◌∙◌, ◌≡◌}
 use Rattle.std.proofs.lemmas.Result.{err_from_is_err_and}
 use Rattle.board.specs.Packed.{read_of}
-use Rattle.board.specs.declared.Board.{Board}
-use Rattle.board.specs.declared.Refusal.{Refusal}
 use Rattle.board.proofs.Laws.{read-shaped, read-misshaped, read-broken}
 use Rattle.board.proofs.Round.{read_back}
 use Rattle.board.proofs.Numbers.{read-given}

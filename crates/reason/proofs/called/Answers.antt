@@ -1,7 +1,7 @@
 -- What the agent answers says which of the two it is (`told`); the reason is what `ruling::reason` promises.
 use Rattle.std.specs.Prelude.{Ok, Err, Result}
 use Rattle.std.proofs.lemmas.Result.{err_from_is_err_and}
-use mathlib.Core.Path.{◌≡◌, refl, sym, ap, ◌∙◌}
+use mathlib.Core.Path.{◌≡◌, sym, ap, ◌∙◌}
 use Rattle.board_record.specs.declared.Record.{Record}
 use Rattle.codes.specs.declared.Call.{Call}
 use Rattle.rules.specs.declared.Event.TheVariants as event
@@ -11,7 +11,6 @@ use Rattle.reason.specs.Reason.{call_of, reason_of}
 use Rattle.reason.specs.Explained.{called_by, called_of}
 use Rattle.reason.specs.declared.Activate.{Activate}
 use Rattle.reason.proofs.called.Goals as goal
-use Rattle.reason.specs.declared.Unexplained.TheVariants as unexplained
 use Rattle.agent.specs.declared.Answer.{Answer}
 use Rattle.rules.specs.declared.Refusal.{Refusal}
 use Rattle.reason.specs.declared.Reason.{Reason}

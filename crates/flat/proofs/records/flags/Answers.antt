@@ -1,8 +1,7 @@
-use Rattle.std.proofs.Common.{false, rules}
-use Rattle.board.specs.Description.{most_components}
+use Rattle.std.proofs.Common.{false, rules, get_or}
 use Rattle.board.specs.Packed.{flag_in}
-use Rattle.flat.proofs.Lists.{mapped}
+use Rattle.flat.proofs.Lists.{filled}
 use Rattle.flat.proofs.records.flags.Goals as goal
 
 pub returns : goal.returns
-returns c = mapped _ flag_in _ _ _ most_components 0 false c.map.ensures.items (λ p x y q h. search rules)
+returns c = filled _ (λ i. flag_in (get_or c.args.from i 0)) _ false _ _ c.from_fn.ensures.items (λ j y q h k. (search rules, search rules))

@@ -5,7 +5,7 @@ use native.Mathlib.Omega.{arith}
 use Rattle.cpuset.specs.Words.{one_shl}
 use Rattle.cpuset.specs.Set.{room, only_of}
 use Rattle.cpuset.specs.Laws.{only_out}
-use Rattle.cpuset.proofs.only.Goals as goal
+use Rattle.cpuset.proofs.CpuSet.only.Goals as goal
 
 pub returns-then-i-lt-ROOM : goal.returns-then-i-lt-ROOM
 unfolding only_of

@@ -3,8 +3,8 @@ use native.Mathlib.Omega.{arith}
 use borrow.Author.Rules.{rules}
 use Rattle.cpuset.specs.Set.{Set}
 use Rattle.cpuset.specs.Laws.{count-words}
-use Rattle.cpuset.proofs.count.Goals as goal
+use Rattle.cpuset.proofs.CpuSet.count.Goals as goal
 
 pub returns : goal.returns
 unfolding Set
-returns c = omega (arith, c.from.ensures, count-words c.args.s (search rules))
+returns c = omega (arith, c.from.ensures, count-words c.args.self (search rules))

@@ -8,7 +8,7 @@ use Rattle.std.proofs.lemmas.Nat.{and-not, and_comm, and_assoc}
 use Rattle.std.specs.Int.Bits.{xor_add_and, and_self}
 use Rattle.cpuset.specs.Bit.{bit_less}
 use Rattle.cpuset.specs.Set.{less_of}
-use Rattle.cpuset.proofs.less.Goals as goal
+use Rattle.cpuset.proofs.CpuSet.less.Goals as goal
 
 without : (a b : ℕ) → a < 2 ^ 64 → b < 2 ^ 64 → bit_and a (2 ^ 64 - 1 - b) ≡ bit_less a b
 without a b h g =
@@ -18,4 +18,4 @@ without a b h g =
 
 pub returns : goal.returns
 unfolding less_of
-returns c = rw (without c.args.s.bits c.args.t.bits (search rules) (search rules))
+returns c = rw (without c.args.self.bits c.args.t.bits (search rules) (search rules))

@@ -7,7 +7,7 @@ use Rattle.cpuset.specs.Bit.{bit}
 use Rattle.cpuset.specs.Words.{member-first}
 use Rattle.cpuset.specs.Set.{room, has_of}
 use Rattle.cpuset.specs.Laws.{has-out}
-use Rattle.cpuset.proofs.has.Goals as goal
+use Rattle.cpuset.proofs.CpuSet.has.Goals as goal
 
 pub returns-then-i-lt-ROOM : goal.returns-then-i-lt-ROOM
 unfolding has_of bit

@@ -5,7 +5,7 @@ use native.Mathlib.Omega.{arith}
 use lib.Pow.{pow_pos}
 use Rattle.cpuset.specs.Words.{one_shl}
 use Rattle.cpuset.specs.Set.{below_of}
-use Rattle.cpuset.proofs.below.Goals as goal
+use Rattle.cpuset.proofs.CpuSet.below.Goals as goal
 
 pub overflow_sub-result : goal.overflow_sub-result
 overflow_sub-result c = rw (one_shl c.args.n (omega arith)) (pow_pos _)
