@@ -5,19 +5,21 @@ use mathlib.Core.Path.{◌≡◌, refl, sym, ap, subst, ◌∙◌}
 use mathlib.Core.List.{List, [], ◌∷◌, ◌++◌, reverse}
 use native.Mathlib.Nat.{zero-add, suc-add, add-mul, mul_assoc, add_assoc, mod-eq_of_lt}
 use native.Mathlib.Omega.{arith}
-use lib.ListN.{length, take, drop, take-append-drop, get_or-eq_default, length-drop}
+use lib.ListN.{length, take, drop, get_or, take-append-drop, get_or-eq_default, length-drop}
 use lib.Seq.{length-take-le, take_all}
 use lib.Pow.{high, low, shl_exact, pow-add, pow_pos}
 use lib.Arith.{digits_lt}
 use Rattle.std.specs.Prelude.{bit_or}
 use Rattle.std.specs.List.{fold}
 use Rattle.std.specs.Int.{w64, to_be_bytes, to_le_bytes, from_be_bytes, swap_bytes}
-use Rattle.std.proofs.lemmas.List.{length-reverse, reverse-append, reverse-reverse, get_or-reverse}
+use Rattle.std.proofs.lemmas.List.{ext_get_or, length-reverse, get_or-reverse}
 use Rattle.std.proofs.lemmas.Nat.{or_shifted, be_bytes_8}
 use Rattle.basics.specs.Order.{lt-cases}
+use Rattle.basics.specs.Places.{firsts, length-firsts, get_or-firsts}
 use Rattle.bitfield.specs.Bits.{AreBytes, widest, widest_bytes, value_at, bytes}
 use Rattle.bitfield.proofs.Laws.{value-lt, value-join, length-bytes, get_or-bytes}
-use Rattle.bitfield.proofs.Round.{value-cons, value-bytes, value-front, value-drop, bytes-value, bytes-append}
+use Rattle.bitfield.proofs.Round.{value-cons, value-bytes, value-front, value-drop}
+use Rattle.bitfield.proofs.Turned.{turned-back}
 
 -- no bytes write 0
 pub value_none : (s : List ℕ) → length s ≡ 0 → 0 ≡ value_at s 0 (8 * length s)
@@ -96,33 +98,36 @@ low_first y =
     let e : to_le_bytes w64 y ≡ reverse (to_be_bytes w64 y) = refl in
     e ∙ ap reverse (to-be-bytes y)
 
--- of the number that bytes write in the other order they are those bytes, and more
-turned : (s : List ℕ) (y : ℕ) → AreBytes s → length s ≤ widest_bytes → y ≡ value_at (reverse s) 0 (8 * length s) → to_le_bytes w64 y ≡ s ++ reverse (bytes (widest_bytes - length s) 0)
-turned s y b h e =
-    let n = length s in
-    let r = reverse s in
-    let more = bytes (widest_bytes - n) 0 in
-    let m : widest_bytes - n + n ≡ widest_bytes = omega arith in
-    let lt : y < 2 ^ (8 * n) = rw e (value-lt r 0 (8 * n)) in
-    let own : bytes n y ≡ r = rw e (rw (length-reverse s) at (bytes-value r (turned-are-bytes s b))) in
-    let z : 0 * 2 ^ (8 * n) + y ≡ y = omega arith in
-    let all : bytes widest_bytes y ≡ more ++ r = rw (m, z) at (bytes-append (widest_bytes - n) n 0 y lt ∙ ap (λ (t : List ℕ). more ++ t) own) in
-    low_first y ∙ ap reverse all ∙ reverse-append more r ∙ ap (λ (t : List ℕ). t ++ reverse more) (reverse-reverse s)
+-- a list turned round, by its places
+turned-places : (s : List ℕ) (n : ℕ) (f : ℕ → ℕ) → length s ≡ n → ((i : ℕ) → i < n → get_or s (n - 1 - i) 0 ≡ f i) → reverse s ≡ firsts n f
+turned-places s n f e h =
+    ext_get_or 0 (reverse s) (firsts n f) (omega (arith, length-reverse s, length-firsts f n, e))
+    (λ i m.
+    let l : i < n = omega (arith, length-reverse s, e) in
+    let j : length s - 1 - i ≡ n - 1 - i = omega (arith, e) in
+    get_or-reverse s i 0 (omega (arith, e)) ∙ ap (λ (k : ℕ). get_or s k 0) j ∙ h i l ∙ sym (get_or-firsts f n i 0 l))
 
--- bytes that are read in the other order and swapped are the upper ones of a word
+-- a word's bytes, lowest first, by what each has of it
+low-places : (y : ℕ) → to_le_bytes w64 y ≡ firsts widest_bytes (λ i. y / 2 ^ (8 * i) % 256)
+low-places y =
+    low_first y
+    ∙ turned-places (bytes widest_bytes y) widest_bytes (λ i. y / 2 ^ (8 * i) % 256) (length-bytes widest_bytes y)
+    (λ i l.
+    let j : widest_bytes - 1 - (widest_bytes - 1 - i) ≡ i = omega arith in
+    get_or-bytes widest_bytes y (widest_bytes - 1 - i) (omega arith) ∙ rw j)
+
+-- bytes that are read in the other order and swapped are the upper ones of a word: `turned-back`, by the kit's words
 pub swapped-back : (s : List ℕ) (y x : ℕ) → AreBytes s → length s ≤ widest_bytes → y ≡ fold (λ v b. bit_or (v * 2 ^ 8 % 2 ^ 64) b) 0 (reverse s) → x ≡ swap_bytes w64 y → x < 2 ^ widest → x / 2 ^ (8 * (widest_bytes - length s)) ≡ value_at s 0 (8 * length s)
 swapped-back s y x b h e q lt =
     let n = length s in
-    let rest = 8 * (widest_bytes - n) in
+    let f : ℕ → ℕ = λ i. get_or s (0 + (n - 1 - i)) 0 in
     let l = to_le_bytes w64 y in
-    let more = reverse (bytes (widest_bytes - n) 0) in
     let len = length-reverse s in
     let other : y ≡ value_at (reverse s) 0 (8 * n) = e ∙ fold-bytes (reverse s) 0 (turned-are-bytes s b) (omega arith) (pow_pos _) ∙ rw len (omega arith) in
+    let from : reverse s ≡ firsts n f = turned-places s n f refl (λ i m. rw zero-add) in
     let fit : AreBytes l = subst AreBytes (sym (low_first y)) (turned-are-bytes (bytes widest_bytes y) (bytes-are-bytes widest_bytes y)) in
     let v : x ≡ value_at l 0 widest = be-value l x refl fit lt q in
-    let w : widest ≡ 8 * n + rest = omega arith in
-    let top : x / 2 ^ rest ≡ value_at l 0 (8 * n) = rw (v, w, value-join l 0 (8 * n) rest, high (value_at l 0 (8 * n)) rest (value-lt l (0 + 8 * n) rest)) in
-    top ∙ ap (λ (t : List ℕ). value_at t 0 (8 * n)) (turned s y b h other) ∙ value-front s more 0 (8 * n) (omega arith)
+    turned-back s 0 n y x b h (other ∙ ap (λ (t : List ℕ). value_at t 0 (8 * n)) from) (v ∙ ap (λ (t : List ℕ). value_at t 0 widest) (low-places y))
 
 -- ---- a field of a number
 

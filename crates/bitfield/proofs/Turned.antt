@@ -1,5 +1,5 @@
--- A number's bytes turned round twice are the number, by what each place holds, of any n bytes from byte k on. `swapped-back` (ByBytes)
--- says it of a whole slice, by the kit's words, and is what `number` goes by. Assumes nothing.
+-- A number's bytes turned round twice are the number, by what each place holds, of any n bytes from byte k on. `number` goes by it:
+-- `swapped-back` (ByBytes) is this law of a whole slice, by the kit's words. Assumes nothing.
 use Prim.Native.Nat.{ℕ, zero, suc, ◌+◌, ◌-◌, ◌*◌, ◌/◌, ◌%◌, ◌^◌, ◌≤◌, ◌<◌}
 use mathlib.Core.Path.{◌≡◌, refl, sym, ap, ◌∙◌}
 use mathlib.Core.List.{List}
