@@ -18,4 +18,4 @@ without a b h g =
 
 pub returns : goal.returns
 unfolding less_of
-returns c = rw (without c.args.self.bits c.args.t.bits (search rules) (search rules))
+returns c = ap (λ (x : ℕ). record { bits = x }) (without c.args.self.bits c.args.t.bits (search rules) (search rules))
