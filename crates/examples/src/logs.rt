@@ -49,13 +49,11 @@ fn writing(rt: &impl Print, name: &str, r: LogRecord) -> io::Result<()> {
     println!(rt)
 }
 
-// A log of one record again and again.
-fn log_of(r: LogRecord) -> [u8; TOO_LONG] {
-    let mut log = [0u8; TOO_LONG];
+// Fills a log with one record again and again.
+fn fill(log: &mut [u8], r: LogRecord) {
     for part in log.chunks_exact_mut(RECORD_BYTES) {
         let _ = log_record::put_record(part, r);
     }
-    log
 }
 
 // Whether bytes are a log.
@@ -110,12 +108,15 @@ fn longest(rt: &impl Print, log: &[u8; TOO_LONG]) -> io::Result<()> {
     asking(rt, log, MOST_RECORDS + 1)
 }
 
+// A function of its own, so that the room for the log is on the stack for these alone.
+#[inline(never)]
 pub(crate) fn all(rt: &impl Print) -> io::Result<()> {
     numbers(rt, "kinds", &KINDS)?;
     numbers(rt, "outcomes", &OUTCOMES)?;
     writing(rt, "image 1 version 5", image())?;
     writing(rt, "PRIME started by CPU 5", started())?;
-    let log = log_of(image());
+    let mut log = [0u8; TOO_LONG];
+    fill(&mut log, image());
     checking(rt, &log)?;
     longest(rt, &log)?;
     let rest = log_record::rest(&log);

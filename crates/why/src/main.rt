@@ -45,7 +45,9 @@ fn why(rt: &impl Print, board: &[u8], log: &[u8], place: usize, a: Activate) -> 
     line(rt, board, log, place, a, e)
 }
 
-// Reads the two files, the board first, before it looks at either.
+// Reads the two files, the board first, before it looks at either. A function of its own, so that the room for these is not on the stack
+// while words are read.
+#[inline(never)]
 fn answer<R: Env + Files + Print>(
     rt: &R,
     stderr: &impl Print,
