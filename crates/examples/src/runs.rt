@@ -179,6 +179,8 @@ fn two_cpus(rt: &impl Print, rec: Record) -> io::Result<()> {
     postponed(rt, after(gathered, activate(2, 0)))
 }
 
+// A function of its own, so that what it has on the stack is not there beside the log.
+#[inline(never)]
 pub(crate) fn all(rt: &impl Print) -> io::Result<()> {
     numbers(rt)?;
     inventories(rt)?;

@@ -1,4 +1,4 @@
--- `cpuset::below` meets its contract: n ones for an n that there is room for, and ones throughout for any other. Assumes nothing.
+-- `CpuSet::below` meets its contract: n ones for an n that there is room for, and ones throughout for any other. Assumes nothing.
 use Prim.Native.Nat.{◌-◌, min}
 use mathlib.Core.Path.{◌≡◌}
 use native.Mathlib.Omega.{arith}

@@ -1,4 +1,4 @@
--- `cpuset::only` meets its contract: one bit for a number that there is room for, and nothing for any other. Assumes nothing.
+-- `CpuSet::only` meets its contract: one bit for a number that there is room for, and nothing for any other. Assumes nothing.
 use Prim.Native.Nat.{◌/◌, ◌%◌}
 use mathlib.Core.Path.{◌≡◌, sym, ◌∙◌}
 use native.Mathlib.Omega.{arith}
